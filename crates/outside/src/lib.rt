@@ -1,0 +1,36 @@
+//! What is outside of a load: source files, the table file, and where text goes.
+//!
+//! Stands on `tuple_schema`. Each device is a trait with a written meaning and a count of faults
+//! that never falls; `commit_disk` and `whload` are generic over the traits. Read `specs/Disk.antt`
+//! and `specs/Depot.antt` first.
+//!
+//! Promised: the devices in memory keep what they are given, and fail exactly where they were told
+//! to or where they found no memory. A failure is answered only where the count of faults rose.
+//! Not promised: anything of the content of a real file, folder or terminal.
+#![tactic(auto)]
+
+ghost use Rattle.std.specs.Prelude.{◌≡◌};
+ghost use Rattle.tuple_schema.specs.declared.memory.Stop.TheVariants as stop;
+
+mod depot;
+mod disk;
+mod sink;
+mod whole;
+
+pub use depot::Depot;
+pub use disk::{Disk, MAX_SIZE};
+pub use sink::Sink;
+use tuple_schema::Stop;
+pub use whole::WholeFile;
+
+/// A call on a device failed.
+#[derive(Clone, Copy, Debug, PartialEq, Eq)]
+pub struct Failed;
+
+impl From<Failed> for Stop<Failed> {
+    ghost from_gives = { λ f e. e ≡ stop.Fault f };
+
+    fn from(failed: Failed) -> Self {
+        Stop::Fault(failed)
+    }
+}
