@@ -21,7 +21,7 @@ pub use depot::Depot;
 pub use disk::{Disk, MAX_SIZE};
 pub use sink::Sink;
 use tuple_schema::Stop;
-pub use whole::WholeFile;
+pub use whole::{WholeFile, put_all, read_whole};
 
 /// A call on a device failed.
 #[derive(Clone, Copy, Debug, PartialEq, Eq)]
