@@ -108,3 +108,51 @@ fn is_of(column: &Column, value: &Value) -> bool
         _ => false,
     }
 }
+
+#[cfg(test)]
+mod tests {
+    use super::*;
+    use crate::Names;
+    use std::test::Fail;
+
+    fn column(rt: &HostRuntime, name: &str, kind: ColumnKind) -> Result<Column, Fail> {
+        Ok(Column {
+            name: Text::of(rt.alloc(), name)?,
+            kind,
+            nullable: kind == ColumnKind::Text,
+        })
+    }
+
+    // Whether a value may stand alone in a tuple of that one column.
+    fn fits_alone(rt: &HostRuntime, kind: ColumnKind, value: Value) -> Result<bool, Fail> {
+        let held = column(rt, "a", kind)?.copy()?;
+        Ok(is_of(&held, &value))
+    }
+
+    #[test]
+    fn a_value_is_of_its_columns_kind(rt: HostRuntime) -> Result<(), Fail> {
+        for (kind, value, want) in [
+            (ColumnKind::Int, Value::Int(7), true),
+            (ColumnKind::Int, Value::Dec(7), false),
+            (ColumnKind::Int, Value::Null, false),
+            (ColumnKind::Dec(2), Value::Dec(7), true),
+            (ColumnKind::Dec(2), Value::Int(7), false),
+            (ColumnKind::Text, Value::Text(Text::of(rt.alloc(), "x")?), true),
+            (ColumnKind::Text, Value::Int(7), false),
+            (ColumnKind::Text, Value::Null, true),
+        ] {
+            assert_eq!(rt; fits_alone(&rt, kind, value)?, want);
+        }
+        Ok(())
+    }
+
+    #[test]
+    fn names_keep_their_order(rt: HostRuntime) -> Result<(), Fail> {
+        let mut names = Names::new(rt.alloc());
+        names.push(Text::of(rt.alloc(), "b")?)?;
+        names.push(Text::of(rt.alloc(), "a")?)?;
+        assert_eq!(rt; names.items().len(), 2);
+        assert_eq!(rt; names.items()[0].as_str(), "b");
+        Ok(())
+    }
+}

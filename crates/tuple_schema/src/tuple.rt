@@ -128,3 +128,77 @@ impl Tuples {
         &self.rows
     }
 }
+
+#[cfg(test)]
+mod tests {
+    use super::*;
+    use crate::Text;
+    use std::hash::{DefaultHasher, Hash, Hasher};
+    use std::test::Fail;
+
+    fn tuple(rt: &HostRuntime, number: i64, text: &str) -> Result<Tuple, Fail> {
+        let mut values = Vec::new(rt.alloc());
+        values.push(Value::Int(number))?;
+        values.push(Value::Text(Text::of(rt.alloc(), text)?))?;
+        Ok(Tuple::of(values))
+    }
+
+    fn hash_of(tuple: &Tuple) -> u64 {
+        let mut state = DefaultHasher::new();
+        tuple.hash(&mut state);
+        state.finish()
+    }
+
+    // Null, Int, Dec, Text; then by number, or by the bytes of the text.
+    #[test]
+    fn values_have_their_order(rt: HostRuntime) -> Result<(), Fail> {
+        let ascending = [
+            Value::Null,
+            Value::Int(-2),
+            Value::Int(1),
+            Value::Dec(-7),
+            Value::Dec(0),
+            Value::Text(Text::of(rt.alloc(), "")?),
+            Value::Text(Text::of(rt.alloc(), "B")?),
+            Value::Text(Text::of(rt.alloc(), "a")?),
+            Value::Text(Text::of(rt.alloc(), "é")?),
+        ];
+        for (i, low) in ascending.iter().enumerate() {
+            assert!(rt; *low == *low);
+            for (k, high) in ascending.iter().enumerate() {
+                assert_eq!(rt; low < high, i < k, "at {i} and {k}");
+            }
+        }
+        Ok(())
+    }
+
+    #[test]
+    fn tuples_are_compared_from_the_left(rt: HostRuntime) -> Result<(), Fail> {
+        let first = tuple(&rt, 1, "b")?;
+        let second = tuple(&rt, 2, "a")?;
+        assert!(rt; first < second);
+        let again = first.copy()?;
+        assert!(rt; again == first);
+        assert_eq!(rt; hash_of(&again), hash_of(&first));
+        Ok(())
+    }
+
+    #[test]
+    fn a_part_has_its_own_order(rt: HostRuntime) -> Result<(), Fail> {
+        let row = tuple(&rt, 1, "b")?;
+        assert!(rt; row.count() == 2);
+        let part = row.part(&[1, 0, 1])?;
+        let values = part.values();
+        assert_eq!(rt; values.len(), 3);
+        assert!(rt; values[0] == Value::Text(Text::of(rt.alloc(), "b")?));
+        assert!(rt; values[1] == Value::Int(1));
+        assert!(rt; values[2] == values[0]);
+        let mut rows = Tuples::new(rt.alloc());
+        rows.push(row)?;
+        rows.push(part)?;
+        assert_eq!(rt; rows.len(), 2);
+        assert_eq!(rt; rows.rows().len(), 2);
+        assert_eq!(rt; rows.get(1).count(), 3);
+        Ok(())
+    }
+}
