@@ -1,1 +1,3 @@
 pub mod Fills
+pub mod Histories
+pub mod Lookups

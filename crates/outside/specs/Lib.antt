@@ -1,5 +1,11 @@
 pub mod Counts
+pub mod Countdown
 pub mod Depot
 pub mod Disk
 pub mod Sink
 pub mod Whole
+pub mod MemoryDepot
+pub mod History
+pub mod Events
+pub mod MemoryDisk
+pub mod MemorySink

@@ -12,13 +12,21 @@
 ghost use Rattle.std.specs.Prelude.{◌≡◌};
 ghost use Rattle.tuple_schema.specs.declared.memory.Stop.TheVariants as stop;
 
+mod countdown;
 mod depot;
 mod disk;
+mod history;
+mod memory_depot;
+mod memory_disk;
+mod memory_sink;
 mod sink;
 mod whole;
 
 pub use depot::Depot;
 pub use disk::{Disk, MAX_SIZE};
+pub use memory_depot::MemoryDepot;
+pub use memory_disk::MemoryDisk;
+pub use memory_sink::MemorySink;
 pub use sink::Sink;
 use tuple_schema::Stop;
 pub use whole::{WholeFile, put_all, read_whole};
