@@ -1,0 +1,211 @@
+#!/usr/bin/env python3
+"""Runs the proved program that the gate left over real files, and compares every byte.
+
+It builds nothing. The expected bytes are packed here, from docs/FORMATS.md and not from the program.
+"""
+import os
+import shutil
+import struct
+import subprocess
+import sys
+import tempfile
+
+TOP = os.path.dirname(os.path.dirname(os.path.abspath(__file__)))
+PROGRAM = os.path.join(TOP, sys.argv[1]) if len(sys.argv) > 1 else None
+
+FLOW = b"""table = { input = "nums" }
+source = [ { name = "nums", file = "nums.csv", columns = ["a int", "b int"], promise = "seq" } ]
+"""
+REPORT = b"complete\nbefore 0\nadded %d\n"
+
+passed = 0
+failed = []
+
+
+def row_bytes(row):
+    return b"".join(b"\x01" + struct.pack(">q", number) for number in row)
+
+
+def table_bytes(text, rows):
+    """A made table of this flow text: a block of the rows, where there are any, and the end."""
+    image = b"\x01WHTABLE" + struct.pack(">II", 1, len(text)) + text
+    if rows:
+        stored = b"".join(row_bytes(row) for row in rows)
+        image += b"\x01\x00" + struct.pack(">II", len(rows), len(stored)) + stored
+    return image + b"\x01\x01" + bytes(8) + b"\x00"
+
+
+def folder(files):
+    path = tempfile.mkdtemp(prefix="whload load ")
+    for name, content in files.items():
+        with open(os.path.join(path, name), "wb") as file:
+            file.write(content)
+    return path
+
+
+def run(*words, **how):
+    done = subprocess.run([PROGRAM, *words], stdin=subprocess.DEVNULL, capture_output=True,
+                          timeout=60, **how)
+    return done.returncode, done.stdout, done.stderr
+
+
+def shell(line, path):
+    """Runs a line of bash in which $W is the program and $D the folder."""
+    done = subprocess.run(["bash", "-c", line], stdin=subprocess.DEVNULL, capture_output=True,
+                          timeout=60, env={**os.environ, "W": PROGRAM, "D": path})
+    return done.returncode, done.stdout, done.stderr
+
+
+def table_of(path):
+    name = os.path.join(path, "table.whl")
+    if not os.path.exists(name):
+        return None
+    with open(name, "rb") as file:
+        return file.read()
+
+
+def expect(what, got, want):
+    global passed
+    if got == want:
+        passed += 1
+    else:
+        failed.append(what)
+        print(f"FAILED {what}: got {got!r:.300}, want {want!r:.300}")
+
+
+def expect_load(what, files, rows):
+    path = folder(files)
+    expect(what, run("load", path), (0, REPORT % len(rows), b""))
+    expect(what + ": the table", table_of(path), table_bytes(files["flow.toml"], rows))
+    return path
+
+
+def expect_refusal(what, files, status, note):
+    path = folder(files)
+    expect(what, run("load", path), (status, b"", b"whload: " + note + b"\n"))
+    expect(what + ": no table", table_of(path), None)
+
+
+def nums(text):
+    return {"flow.toml": FLOW, "nums.csv": text}
+
+
+def the_example():
+    path = os.path.join(TOP, "examples", "meters")
+    files = {}
+    for name in ("flow.toml", "readings.csv"):
+        with open(os.path.join(path, name), "rb") as file:
+            files[name] = file.read()
+    lines = files["readings.csv"].decode().splitlines()[1:]
+    rows = [tuple(int(field) for field in line.split(",")) for line in lines]
+    loaded = expect_load("the example", files, rows)
+    before = table_of(loaded)
+    expect("a second load", run("load", loaded), (7, b"", b"whload: table.whl is there already\n"))
+    expect("a second load changes nothing", table_of(loaded), before)
+
+
+def csv_forms():
+    three = [(1, 10), (2, 20), (3, 30)]
+    plain = b"a,b\n1,10\n2,20\n3,30\n"
+    expect_load("three rows", nums(plain), three)
+    expect_load("CRLF, quotes and a byte order mark",
+                nums(b'\xef\xbb\xbf"a",b\r\n1,"10"\r\n"2",20\r\n3,30\r\n'), three)
+    expect_load("no last line end", nums(plain[:-1]), three)
+    expect_load("signs and zeros", nums(b"a,b\n+1,-0\n-007,9223372036854775807\n"),
+                [(1, 0), (-7, 2**63 - 1)])
+    expect_load("the least number", nums(b"a,b\n-9223372036854775808,0\n"), [(-2**63, 0)])
+    expect_load("no rows", nums(b"a,b\n"), [])
+    many = [(i, i * i) for i in range(1000)]
+    text = b"a,b\n" + b"".join(b"%d,%d\n" % row for row in many)
+    expect_load("1,000 rows", nums(text), many)
+    expect_refusal("1,001 rows", nums(text + b"7,7\n"), 4, b"source file is not built yet")
+
+
+def refusals():
+    source = b"source file is not built yet"
+    for what, text in [("a text in place of a number", b"a,b\n1,10\n2,x\n3,30\n"),
+                       ("a number out of range", b"a,b\n1,9223372036854775808\n"),
+                       ("an empty field", b"a,b\n1,\n"), ("a short record", b"a,b\n1\n"),
+                       ("a long record", b"a,b\n1,2,3\n"), ("another header", b"a,c\n1,2\n"),
+                       ("an empty file", b"")]:
+        expect_refusal(what, nums(text), 4, source)
+    expect_refusal("no source file", {"flow.toml": FLOW}, 4, source)
+    expect_refusal("no flow", {"nums.csv": b"a,b\n1,10\n"}, 3, b"flow.toml is missing")
+    unbuilt = b"flow.toml is not built yet"
+    for what, text in [("a flow that isn't TOML", b"a = "), ("a flow of other bytes", b"\xff\xfe"),
+                       ("an unknown key", FLOW + b"more = 1\n"),
+                       ("a flow of 65,537 bytes", FLOW + b"#" * (65537 - len(FLOW)))]:
+        expect_refusal(what, {"flow.toml": text, "nums.csv": b"a,b\n"}, 3, unbuilt)
+    longest = FLOW + b"#" * (65536 - len(FLOW))
+    expect_load("a flow of 65,536 bytes", {"flow.toml": longest, "nums.csv": b"a,b\n1,2\n"}, [(1, 2)])
+    expect_refusal_of_words()
+
+
+def expect_refusal_of_words():
+    usage = (b"whload: usage: whload load DIR [--batch N], explain DIR, check DIR, dump DIR, "
+             b"pack DIR SOURCE, drill N\n")
+    for words in ([], ["load"], ["load", ".", "more"], ["Load", "."], ["dump", "."], ["--help"]):
+        expect(f"the words {words}", run(*words), (2, b"", usage))
+    expect("a word that isn't UTF-8", run("load", os.fsencode("\udcff")), (2, b"", usage))
+
+
+def devices():
+    plain = nums(b"a,b\n1,10\n2,20\n")
+    want = table_bytes(FLOW, [(1, 10), (2, 20)])
+
+    path = folder({"flow.toml": FLOW})
+    os.symlink("nums.csv", os.path.join(path, "nums.csv"))
+    expect("a file that can't be opened", run("load", path),
+           (5, b"", b"whload: a source file failed\n"))
+    expect("a file that can't be opened: no table", table_of(path), None)
+    path = folder({"flow.toml": FLOW})
+    os.mkdir(os.path.join(path, "nums.csv"))
+    status, out, _ = run("load", path)
+    expect("a folder in a file's place", (status in (4, 5), out, table_of(path)), (True, b"", None))
+
+    path = folder(plain)
+    os.mkdir(os.path.join(path, "table.whl"))
+    status, out, _ = run("load", path)
+    expect("a folder in the table's place", (status in (5, 7), out), (True, b""))
+
+    path = folder(plain)
+    expect("a full output", shell('"$W" load "$D" > /dev/full', path),
+           (5, b"", b"whload: the output failed\n"))
+    expect("a full output: the table is ended", table_of(path), want)
+    path = folder({})
+    expect("a full output for notes", shell('"$W" load "$D" 2> /dev/full', path), (3, b"", b""))
+
+    for what, line in [("output", '"$W" load "$D" >&-'), ("notes", '"$W" load "$D" 2>&-'),
+                       ("all three", '"$W" load "$D" <&- >&- 2>&-'),
+                       ("input and output", '"$W" load "$D" <&- >&-')]:
+        path = folder(plain)
+        status, _, _ = shell(line, path)
+        expect(f"closed: {what}", (status in (0, 5), table_of(path)), (True, want))
+        with open(os.path.join(path, "nums.csv"), "rb") as file:
+            expect(f"closed: {what}: the source", file.read(), plain["nums.csv"])
+        # A refusal has its line for standard error alone.
+        path = folder(nums(b"a,b\nx,1\n"))
+        status, _, _ = shell(line, path)
+        expect(f"closed: {what}: a refusal", (status, table_of(path)), (4, None))
+
+    path = folder(plain)
+    done = subprocess.run([PROGRAM, "load", "."], cwd=path, capture_output=True, timeout=60)
+    expect("a folder by `.`", (done.returncode, table_of(path)), (0, want))
+
+
+def main():
+    if PROGRAM is None or not os.path.exists(PROGRAM):
+        print("tests/real_files.py: there is no program to run; run the gate first")
+        return 1
+    for part in (the_example, csv_forms, refusals, devices):
+        part()
+    print(f"real files: {passed} passed, {len(failed)} failed")
+    return 1 if failed else 0
+
+
+if __name__ == "__main__":
+    code = main()
+    for name in os.listdir(tempfile.gettempdir()):
+        if name.startswith("whload load "):
+            shutil.rmtree(os.path.join(tempfile.gettempdir(), name), ignore_errors=True)
+    sys.exit(code)
