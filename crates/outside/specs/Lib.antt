@@ -9,3 +9,5 @@ pub mod History
 pub mod Events
 pub mod MemoryDisk
 pub mod MemorySink
+pub mod FolderDepot
+pub mod FileDisk

@@ -15,19 +15,25 @@ ghost use Rattle.tuple_schema.specs.declared.memory.Stop.TheVariants as stop;
 mod countdown;
 mod depot;
 mod disk;
+mod file_disk;
+mod folder_depot;
 mod history;
 mod memory_depot;
 mod memory_disk;
 mod memory_sink;
 mod sink;
+mod std_sink;
 mod whole;
 
 pub use depot::Depot;
 pub use disk::{Disk, MAX_SIZE};
+pub use file_disk::FileDisk;
+pub use folder_depot::FolderDepot;
 pub use memory_depot::MemoryDepot;
 pub use memory_disk::MemoryDisk;
 pub use memory_sink::MemorySink;
 pub use sink::Sink;
+pub use std_sink::StdSink;
 use tuple_schema::Stop;
 pub use whole::{WholeFile, put_all, read_whole};
 

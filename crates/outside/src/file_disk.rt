@@ -1,0 +1,196 @@
+// The file of the table, over the runtime. It isn't said to be honest.
+ghost use Rattle.std.specs.Prelude.{◌≡◌, ◌≤◌, [], false, IfOk};
+ghost use Rattle.outside.specs.Counts.{counted};
+
+use crate::{Disk, Failed};
+use std::alloc::Global;
+use std::fs::{OpenFile, OpenOptions};
+use std::io;
+use std::io::{ErrorKind, Read, Seek, SeekFrom, Write};
+use std::marker::Model;
+use std::path::{Path, PathBuf};
+use std::rt::Files;
+use tuple_schema::Memory;
+
+/// The file `table.whl` of a folder. While there is none it is empty, and the first write makes it.
+#[derive(Drop)]
+pub struct FileDisk<'a, R: Files> {
+    rt: &'a R,
+    dir: PathBuf,
+    path: PathBuf,
+    file: Option<R::File>,
+    is_writable: bool,
+    // The file was made, and its name isn't safe from a crash yet.
+    is_new: bool,
+    len: u64,
+    faults: u64,
+}
+
+impl<'a, R: Files> Model for FileDisk<'a, R> {
+    ghost use Rattle.outside.specs.FileDisk.{FileState};
+
+    ghost Value = { FileState };
+
+    ghost view = { λ d. record { len = d.len; faults = d.faults } };
+}
+
+impl<'a, R: Files> FileDisk<'a, R> {
+    /// Opens nothing before the first call.
+    pub fn new(rt: &'a R, alloc: Global, dir: &str) -> Result<Self, Memory>
+        ensures { IfOk result (λ disk. disk ≡ record { len = 0; faults = 0 }) }
+    {
+        // A folder of no name is the current one.
+        let dir = Path::new(if dir.is_empty() { "." } else { dir });
+        Ok(FileDisk {
+            rt,
+            dir: dir.to_path_buf(alloc)?,
+            path: dir.join(alloc, "table.whl")?,
+            file: None,
+            is_writable: false,
+            is_new: false,
+            len: 0,
+            faults: 0,
+        })
+    }
+
+    // Opens the file for reading, where it is there and isn't open.
+    fn open(&mut self) -> io::Result<()>
+        ensures { self.new ≡ self.old }
+    {
+        if self.file.is_some() {
+            return Ok(());
+        }
+        match OpenOptions::new().read(true).open(self.rt, &self.path) {
+            Ok(file) => {
+                self.file = Some(file);
+                Ok(())
+            }
+            Err(error) if error.kind() == ErrorKind::NotFound => Ok(()),
+            Err(error) => Err(error),
+        }
+    }
+
+    // Opens the file for writing too, and makes it where there is none.
+    fn open_to_write(&mut self) -> io::Result<()>
+        ensures { self.new ≡ self.old }
+    {
+        if self.is_writable {
+            return Ok(());
+        }
+        self.open()?;
+        let is_new = self.file.is_none();
+        let file = OpenOptions::new()
+            .read(true)
+            .write(true)
+            .create(true)
+            .open(self.rt, &self.path)?;
+        self.file = Some(file);
+        self.is_writable = true;
+        self.is_new = is_new;
+        Ok(())
+    }
+
+    fn file_size(&mut self) -> io::Result<u64>
+        ensures { self.new ≡ self.old }
+    {
+        self.open()?;
+        match &self.file {
+            Some(file) => Ok(file.metadata()?.len()),
+            None => Ok(0),
+        }
+    }
+
+    fn read_file(&mut self, at: u64, into: &mut [u8]) -> io::Result<()>
+        ensures { self.new ≡ self.old }
+    {
+        self.open()?;
+        match &mut self.file {
+            Some(file) => {
+                file.seek(SeekFrom::Start(at))?;
+                file.read_exact(into)
+            }
+            None if into.is_empty() => Ok(()),
+            None => Err(io::Error::from(ErrorKind::UnexpectedEof)),
+        }
+    }
+
+    fn write_file(&mut self, at: u64, bytes: &[u8]) -> io::Result<()>
+        ensures { self.new ≡ self.old }
+    {
+        self.open_to_write()?;
+        match &mut self.file {
+            Some(file) => {
+                file.seek(SeekFrom::Start(at))?;
+                file.write_all(bytes)
+            }
+            None => Err(io::Error::from(ErrorKind::NotFound)),
+        }
+    }
+
+    fn sync_file(&mut self) -> io::Result<()>
+        ensures { self.new ≡ self.old }
+    {
+        self.open()?;
+        if let Some(file) = &self.file {
+            file.sync_all()?;
+        }
+        if self.is_new {
+            let folder = OpenOptions::new().read(true).open(self.rt, &self.dir)?;
+            folder.sync_all()?;
+            self.is_new = false;
+        }
+        Ok(())
+    }
+
+    fn fail(&mut self) -> Failed
+        ensures counts { self.new ≡ record self.old { faults = counted self.old.faults 1 } }
+        ensures later { self.old.faults ≤ self.new.faults }
+    {
+        self.faults = self.faults.saturating_add(1);
+        Failed
+    }
+}
+
+impl<R: Files> Disk for FileDisk<'_, R> {
+    ghost len = { λ d. d.len };
+
+    ghost honest = { λ _. false };
+
+    ghost seen = { λ _. [] };
+
+    ghost faults = { λ d. d.faults };
+
+    fn size(&mut self) -> Result<u64, Failed> {
+        match self.file_size() {
+            Ok(size) => {
+                self.len = size;
+                Ok(size)
+            }
+            Err(_) => Err(self.fail()),
+        }
+    }
+
+    fn read_at(&mut self, at: u64, into: &mut [u8]) -> Result<(), Failed> {
+        match self.read_file(at, into) {
+            Ok(()) => Ok(()),
+            Err(_) => Err(self.fail()),
+        }
+    }
+
+    fn write_at(&mut self, at: u64, bytes: &[u8]) -> Result<(), Failed> {
+        match self.write_file(at, bytes) {
+            Ok(()) => {
+                self.len = self.len.max(at + bytes.len() as u64);
+                Ok(())
+            }
+            Err(_) => Err(self.fail()),
+        }
+    }
+
+    fn sync(&mut self) -> Result<(), Failed> {
+        match self.sync_file() {
+            Ok(()) => Ok(()),
+            Err(_) => Err(self.fail()),
+        }
+    }
+}
