@@ -1,0 +1,15 @@
+use Rattle.std.proofs.Common.{◌≡◌, ℕ, ap, arith, subst}
+use Rattle.commit_disk.specs.Table.{IsStored}
+use Rattle.commit_disk.specs.Buffer.{behind_gate}
+use Rattle.commit_disk.specs.Gate.{OpensGate}
+use Rattle.commit_disk.specs.Journal.{JournalState}
+use Rattle.commit_disk.proofs.Tables.{commits}
+use Rattle.commit_disk.proofs.journal.Journal.commit.Goals as goal
+
+pub returns-clause-done : goal.returns-clause-done
+returns-clause-done g c = λ honest.
+    let good : IsStored c.args.block.now = record { some = c.requires.some; few = omega arith; short = omega arith } in
+    let gate : c.self.inside.gate ≡ c.args.self.now.gate = ap (λ (j : JournalState). j.gate) c.self.view_is in
+    let Opens : ℕ → Type 0 = λ place. OpensGate place (behind_gate c.args.block.now) (g.K.Disk.seen c.args.disk.now) (g.K.Disk.seen c.open_gate.new.disk) in
+    let opens = rw c.behind_gate.ensures.behind at (c.in_ok-open_gate.ensures.opened honest) in
+    commits _ _ _ _ c.args.block.now good (omega arith) (omega arith) (subst Opens gate opens)

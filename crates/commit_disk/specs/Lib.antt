@@ -1,0 +1,4 @@
+pub mod Table
+pub mod Journal
+pub mod Buffer
+pub mod Gate

@@ -1,0 +1,183 @@
+// The journal of a table: where its gates are, and the calls that add to it.
+ghost use Rattle.std.specs.Prelude.{◌≡◌, ◌≤◌, ◌<◌, ◌+◌, ◌^◌, ◌↔◌, [], ◌∷◌, ◌++◌, List, length, vec_len, IsTrue, IsErrOf, IfOk, OnOk, OnErr, false};
+ghost use Rattle.outside.specs.Counts.{HasCause, Rose};
+ghost use Rattle.tuple_schema.specs.Stops.{IfFault};
+ghost use Rattle.tuple_schema.specs.declared.memory.Stop.TheVariants as stop;
+ghost use Rattle.commit_disk.specs.Table.{HoldsUpTo, IsNotMade, head};
+ghost use Rattle.commit_disk.specs.Journal.{new_journal, after_block, after_end, Commits, Ends};
+
+use crate::Block;
+use crate::gate::{CLOSED, MADE_GATE, close_made_gate, open_gate};
+use outside::{Disk, Failed, MAX_SIZE};
+use std::alloc::Global;
+use std::marker::Model;
+use tuple_schema::{Memory, Stop};
+
+/// The most bytes of a flow text.
+pub const MAX_FLOW_BYTES: u32 = 65_536;
+
+const VERSION: u32 = 1;
+
+// Behind its gate stand the kind, the count of rows and their length, and the next gate.
+const END: [u8; 10] = [1, 0, 0, 0, 0, 0, 0, 0, 0, 0];
+
+/// Where the gates of a table are, and how many rows it has.
+///
+/// After a failed call it isn't sound: the table has to be attached again.
+#[derive(Debug, Drop)]
+pub struct Journal {
+    first: u64,
+    gate: u64,
+    count: u64,
+    ended: bool,
+    sound: bool,
+}
+
+impl Model for Journal {
+    ghost use Rattle.commit_disk.specs.Journal.{JournalState, IsInOrder};
+
+    ghost Value = { JournalState };
+
+    ghost view = { λ j. record { first = j.first; gate = j.gate; count = j.count; ended = j.ended; sound = j.sound } };
+
+    ghost invariant = { λ j. IsInOrder j.first j.gate j.count };
+}
+
+impl Journal {
+    /// The place of the first block's gate.
+    pub fn first(&self) -> u64
+        ensures first { result ≡ self.now.first }
+        ensures ordered { result ≤ self.now.gate }
+    {
+        self.first
+    }
+
+    /// The place of the first closed gate, behind which the next block is written.
+    pub fn gate(&self) -> u64
+        ensures gate { result ≡ self.now.gate }
+        ensures room { result < MAX_SIZE }
+    {
+        self.gate
+    }
+
+    /// How many rows the table has.
+    pub fn count(&self) -> u64
+        ensures count { result ≡ self.now.count }
+        ensures small { result ≤ 2 ^ 60 }
+    {
+        self.count
+    }
+
+    /// Whether the table has its end block, behind which nothing is written.
+    pub fn ended(&self) -> bool
+        ensures { result ≡ self.now.ended }
+    {
+        self.ended
+    }
+
+    /// Whether no call has failed.
+    pub fn sound(&self) -> bool
+        ensures { result ≡ self.now.sound }
+    {
+        self.sound
+    }
+
+    /// Commits a block: at Ok the table has it behind the others. At Err attach the table again.
+    pub fn commit<K: Disk>(&mut self, disk: &mut K, block: &Block) -> Result<(), Failed>
+        requires sound { IsTrue self.old.sound }
+        requires unended { self.old.ended ≡ false }
+        requires some { 1 ≤ block.now.count }
+        requires fits { self.old.gate + 11 + length block.now.bytes ≤ MAX_SIZE }
+        requires place { self.old.gate < K.len disk.old }
+
+        ensures moved { OnOk result (self.new ≡ after_block self.old block.now) }
+        ensures done { OnOk result (IsTrue (K.honest disk.old)
+            → Commits self.old.gate self.new.gate block.now (K.seen disk.old) (K.seen disk.new)) }
+        ensures len { OnOk result (self.new.gate < K.len disk.new) }
+
+        ensures unsound { OnErr result (self.new ≡ record self.old { sound = false }) }
+        ensures honest { K.honest disk.new ≡ K.honest disk.old }
+        ensures cause { HasCause (K.faults disk.old) (K.faults disk.new) result }
+    {
+        self.sound = false;
+        open_gate(disk, self.gate, block.behind_gate())?;
+        self.sound = true;
+        self.gate += block.behind_gate().len() as u64;
+        self.count += block.rows() as u64;
+        Ok(())
+    }
+
+    /// Commits the end block: at Ok the table is ended. At Err attach the table again.
+    pub fn end<K: Disk>(&mut self, disk: &mut K) -> Result<(), Failed>
+        requires sound { IsTrue self.old.sound }
+        requires unended { self.old.ended ≡ false }
+        requires fits { self.old.gate + 11 ≤ MAX_SIZE }
+        requires place { self.old.gate < K.len disk.old }
+
+        ensures moved { OnOk result (self.new ≡ after_end self.old) }
+        ensures done { OnOk result (IsTrue (K.honest disk.old)
+            → Ends self.old.gate self.new.gate (K.seen disk.old) (K.seen disk.new)) }
+        ensures len { OnOk result (self.new.gate < K.len disk.new) }
+
+        ensures unsound { OnErr result (self.new ≡ record self.old { sound = false }) }
+        ensures honest { K.honest disk.new ≡ K.honest disk.old }
+        ensures cause { HasCause (K.faults disk.old) (K.faults disk.new) result }
+    {
+        self.sound = false;
+        open_gate(disk, self.gate, &END)?;
+        self.sound = true;
+        self.gate += END.len() as u64;
+        self.ended = true;
+        Ok(())
+    }
+}
+
+/// Whether a block of so many bytes of rows may stand behind the gate, within the longest file.
+pub fn fits(gate: u64, rows_len: u32) -> bool
+    ensures { IsTrue result ↔ (gate + 11 + rows_len ≤ MAX_SIZE) }
+{
+    gate <= MAX_SIZE - 11 - rows_len as u64
+}
+
+/// Makes a table of this flow text with no rows. Where no memory is found, nothing is done.
+pub fn make<K: Disk>(alloc: Global, disk: &mut K, text: &[u8]) -> Result<Journal, Stop<Failed>>
+    requires short { length text.now ≤ MAX_FLOW_BYTES }
+    requires not_made { IsTrue (K.honest disk.old) → IsNotMade (K.seen disk.old) }
+
+    ensures journal { IfOk result (λ journal. journal ≡ new_journal text.now) }
+    ensures done { IfOk result (λ journal. IsTrue (K.honest disk.old)
+        → HoldsUpTo journal.gate (K.seen disk.new) text.now [] false) }
+    ensures len { IfOk result (λ journal. journal.gate < K.len disk.new) }
+
+    ensures memory { IsErrOf result stop.Memory → disk.new ≡ disk.old }
+    ensures cause { IfFault result (λ _. Rose (K.faults disk.old) (K.faults disk.new)) }
+    ensures later { K.faults disk.old ≤ K.faults disk.new }
+    ensures honest { K.honest disk.new ≡ K.honest disk.old }
+{
+    let behind = head_bytes(alloc, text)?;
+    close_made_gate(disk)?;
+    open_gate(disk, MADE_GATE, &behind)?;
+    let first = behind.len() as u64;
+    Ok(Journal {
+        first,
+        gate: first,
+        count: 0,
+        ended: false,
+        sound: true,
+    })
+}
+
+// What stands behind the made gate, and the first block's gate, closed.
+#[tactic(auto, unfolding(crate::specs::Table::head))]
+fn head_bytes(alloc: Global, text: &[u8]) -> Result<Vec<u8>, Memory>
+    requires { length text.now ≤ MAX_FLOW_BYTES }
+    ensures bytes { IfOk result (λ behind. behind.items ≡ head text.now ++ 0 ∷ []) }
+    ensures len { IfOk result (λ behind. vec_len behind ≡ 16 + length text.now) }
+{
+    let mut behind = b"WHTABLE".to_vec(alloc)?;
+    behind.extend_from_slice(&VERSION.to_be_bytes())?;
+    behind.extend_from_slice(&(text.len() as u32).to_be_bytes())?;
+    behind.extend_from_slice(text)?;
+    behind.push(CLOSED)?;
+    Ok(behind)
+}
