@@ -194,3 +194,32 @@ impl<R: Files> Disk for FileDisk<'_, R> {
         }
     }
 }
+
+#[cfg(test)]
+mod tests {
+    use super::*;
+    use std::test::Fail;
+
+    #[test]
+    fn the_first_write_makes_the_file(rt: HostRuntime) -> Result<(), Fail> {
+        let mut disk = FileDisk::new(&rt, rt.alloc(), "")?;
+        assert_eq!(rt; disk.size(), Ok(0));
+        assert_eq!(rt; disk.sync(), Ok(()));
+        assert!(rt;
+            rt.metadata("table.whl").is_err(),
+            "the file is there too early"
+        );
+        disk.write_at(0, b"abcdef")?;
+        disk.write_at(2, b"XY")?;
+        disk.sync()?;
+        let mut into = [0; 3];
+        disk.read_at(1, &mut into)?;
+        assert_eq!(rt; into, *b"bXY");
+
+        let mut again = FileDisk::new(&rt, rt.alloc(), ".")?;
+        assert_eq!(rt; again.size(), Ok(6));
+        again.write_at(0, b"1")?;
+        assert_eq!(rt; disk.size(), Ok(6));
+        Ok(())
+    }
+}
