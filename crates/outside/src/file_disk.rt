@@ -20,8 +20,9 @@ pub struct FileDisk<'a, R: Files> {
     path: PathBuf,
     file: Option<R::File>,
     is_writable: bool,
-    // The file was made, and its name isn't safe from a crash yet.
-    is_new: bool,
+    // Whether the folder was synced since the file is open, so that the file's name is safe from a
+    // crash too. A file that is found may have been made by a load that was stopped before that.
+    is_name_safe: bool,
     len: u64,
     faults: u64,
 }
@@ -47,7 +48,7 @@ impl<'a, R: Files> FileDisk<'a, R> {
             path: dir.join(alloc, "table.whl")?,
             file: None,
             is_writable: false,
-            is_new: false,
+            is_name_safe: false,
             len: 0,
             faults: 0,
         })
@@ -77,8 +78,6 @@ impl<'a, R: Files> FileDisk<'a, R> {
         if self.is_writable {
             return Ok(());
         }
-        self.open()?;
-        let is_new = self.file.is_none();
         let file = OpenOptions::new()
             .read(true)
             .write(true)
@@ -86,7 +85,6 @@ impl<'a, R: Files> FileDisk<'a, R> {
             .open(self.rt, &self.path)?;
         self.file = Some(file);
         self.is_writable = true;
-        self.is_new = is_new;
         Ok(())
     }
 
@@ -118,26 +116,25 @@ impl<'a, R: Files> FileDisk<'a, R> {
         ensures { self.new ≡ self.old }
     {
         self.open_to_write()?;
-        match &mut self.file {
-            Some(file) => {
-                file.seek(SeekFrom::Start(at))?;
-                file.write_all(bytes)
-            }
-            None => Err(io::Error::from(ErrorKind::NotFound)),
-        }
+        let Some(file) = &mut self.file else {
+            return Err(io::Error::from(ErrorKind::NotFound));
+        };
+        file.seek(SeekFrom::Start(at))?;
+        file.write_all(bytes)
     }
 
     fn sync_file(&mut self) -> io::Result<()>
         ensures { self.new ≡ self.old }
     {
         self.open()?;
-        if let Some(file) = &self.file {
-            file.sync_all()?;
-        }
-        if self.is_new {
+        let Some(file) = &self.file else {
+            return Ok(());
+        };
+        file.sync_all()?;
+        if !self.is_name_safe {
             let folder = OpenOptions::new().read(true).open(self.rt, &self.dir)?;
             folder.sync_all()?;
-            self.is_new = false;
+            self.is_name_safe = true;
         }
         Ok(())
     }
@@ -192,5 +189,34 @@ impl<R: Files> Disk for FileDisk<'_, R> {
             Ok(()) => Ok(()),
             Err(_) => Err(self.fail()),
         }
+    }
+}
+
+#[cfg(test)]
+mod tests {
+    use super::*;
+    use std::test::Fail;
+
+    #[test]
+    fn the_first_write_makes_the_file(rt: HostRuntime) -> Result<(), Fail> {
+        let mut disk = FileDisk::new(&rt, rt.alloc(), "")?;
+        assert_eq!(rt; disk.size(), Ok(0));
+        assert_eq!(rt; disk.sync(), Ok(()));
+        assert!(rt;
+            rt.metadata("table.whl").is_err(),
+            "the file is there too early"
+        );
+        disk.write_at(0, b"abcdef")?;
+        disk.write_at(2, b"XY")?;
+        disk.sync()?;
+        let mut into = [0; 3];
+        disk.read_at(1, &mut into)?;
+        assert_eq!(rt; into, *b"bXY");
+
+        let mut again = FileDisk::new(&rt, rt.alloc(), ".")?;
+        assert_eq!(rt; again.size(), Ok(6));
+        again.write_at(0, b"1")?;
+        assert_eq!(rt; disk.size(), Ok(6));
+        Ok(())
     }
 }

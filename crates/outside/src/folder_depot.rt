@@ -114,3 +114,30 @@ fn fill<F: Read + Seek>(file: &mut F, at: u64, into: &mut [u8]) -> io::Result<us
     }
     Ok(done)
 }
+
+#[cfg(test)]
+mod tests {
+    use super::*;
+    use std::fs;
+    use std::test::Fail;
+
+    #[test]
+    fn files_are_read_and_folders_fail(rt: HostRuntime) -> Result<(), Fail> {
+        fs::create_dir(&rt, "orders")?;
+        fs::write(&rt, "orders/a.csv", "abc")?;
+        let mut depot = FolderDepot::new(&rt, rt.alloc(), "orders")?;
+        assert_eq!(rt; depot.size("a.csv"), Ok(Some(3)));
+        assert_eq!(rt; depot.size("b.csv"), Ok(None));
+        let mut into = [0; 2];
+        assert_eq!(rt; depot.read_at("a.csv", 1, &mut into), Ok(2));
+        assert_eq!(rt; into, *b"bc");
+        assert_eq!(rt; depot.read_at("a.csv", 2, &mut into), Ok(1));
+        assert_eq!(rt; depot.read_at("a.csv", 3, &mut into), Ok(0));
+        assert_eq!(rt; depot.read_at("b.csv", 0, &mut into), Ok(0));
+
+        let mut above = FolderDepot::new(&rt, rt.alloc(), "")?;
+        assert_eq!(rt; above.size("orders"), Err(Failed));
+        assert_eq!(rt; above.read_at("orders", 0, &mut into), Err(Failed));
+        Ok(())
+    }
+}

@@ -2,7 +2,7 @@
 //!
 //! Stands on `tuple_schema`. Each device is a trait with a written meaning and a count of faults
 //! that never falls; `commit_disk` and `whload` are generic over the traits. Read `specs/Disk.antt`
-//! and `specs/Depot.antt` first.
+//! and `specs/Depot.antt` first, then `specs/History.antt`, which a disk in memory is seen as.
 //!
 //! Promised: the devices in memory keep what they are given, and fail exactly where they were told
 //! to or where they found no memory. A failure is answered only where the count of faults rose.

@@ -93,6 +93,7 @@ impl Disk for MemoryDisk {
     fn read_at(&mut self, at: u64, into: &mut [u8]) -> Result<(), Failed>
         requires { at + length into.old ≤ length (seen_of self.old) }
         ensures bytes { OnOk result (Reads (seen_of self.old) at into.new) }
+        ensures not_read { OnErr result (into.new ≡ into.old) }
         ensures history { self.new.history ≡ self.old.history }
         ensures exact { is_err result ≡ is_due self.old.due }
         ensures due { self.new.due ≡ nearer self.old.due }
@@ -141,5 +142,40 @@ impl Disk for MemoryDisk {
             Ok(()) => Ok(()),
             Err(_) => Err(starve(&mut self.faults, &mut self.starved)),
         }
+    }
+}
+
+#[cfg(test)]
+mod tests {
+    use super::*;
+    use std::test::Fail;
+
+    #[test]
+    fn writes_go_over_the_middle_and_past_the_end(rt: HostRuntime) -> Result<(), Fail> {
+        let mut disk = MemoryDisk::new(rt.alloc(), b"abcdef")?;
+        disk.write_at(2, b"XY")?;
+        disk.write_at(5, b"789")?;
+        disk.sync()?;
+        assert_eq!(rt; disk.size(), Ok(8));
+        assert_eq!(rt; disk.bytes(), b"abXYe789".as_slice());
+        let mut into = [0; 3];
+        disk.read_at(4, &mut into)?;
+        assert_eq!(rt; into, *b"e78");
+        assert_eq!(rt; disk.starved(), 0);
+        Ok(())
+    }
+
+    #[test]
+    fn a_call_fails_exactly_where_it_was_set_to(rt: HostRuntime) -> Result<(), Fail> {
+        let mut disk = MemoryDisk::new(rt.alloc(), b"abc")?;
+        disk.fail_at(2)?;
+        disk.fail_at(4)?;
+        disk.write_at(0, b"1")?;
+        assert_eq!(rt; disk.write_at(1, b"2"), Err(Failed));
+        disk.write_at(2, b"3")?;
+        assert_eq!(rt; disk.sync(), Err(Failed));
+        assert_eq!(rt; disk.sync(), Ok(()));
+        assert_eq!(rt; disk.bytes(), b"1b3".as_slice());
+        Ok(())
     }
 }
