@@ -72,3 +72,6 @@ fn encode_field(field: FieldRef<'_>, into: &mut Vec<u8>) -> Result<(), AllocErro
     }
     Ok(())
 }
+
+#[cfg(test)]
+mod tests;

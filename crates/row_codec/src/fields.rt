@@ -84,3 +84,6 @@ fn read_digits(bytes: &[u8]) -> Option<u64>
     }
     Some(value)
 }
+
+#[cfg(test)]
+mod tests;
