@@ -16,3 +16,6 @@ mod journal;
 
 pub use block::{Block, FULL_BYTES, MAX_ROW_BYTES, MAX_ROWS};
 pub use journal::{Journal, MAX_FLOW_BYTES, fits, make};
+
+#[cfg(test)]
+mod tests;
