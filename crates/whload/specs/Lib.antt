@@ -1,0 +1,7 @@
+pub mod Words
+pub mod Reasons
+pub mod Texts
+pub mod Holds
+pub mod Verdict
+pub mod Answers
+pub mod Found

@@ -1,0 +1,99 @@
+// How a command ends.
+ghost use Rattle.std.specs.Prelude.{◌≡◌};
+ghost use Rattle.whload.specs.Reasons.{status_of, exit_status_of};
+ghost use Rattle.whload.specs.declared.reason.Reason.TheVariants as why;
+
+use std::alloc::AllocError;
+
+/// What the program can't do yet.
+#[derive(Clone, Copy, Debug, PartialEq, Eq)]
+pub enum Unbuilt {
+    /// The flow has something that isn't built.
+    Flow,
+    /// The source's file has something that isn't built.
+    Source,
+}
+
+/// Why a command wasn't done.
+#[derive(Clone, Copy, Debug, PartialEq, Eq)]
+pub enum Reason {
+    /// The words are no command.
+    Usage,
+    /// There is no `flow.toml`.
+    FlowMissing,
+    NotBuilt { what: Unbuilt },
+    /// The table's file isn't empty.
+    AlreadyBegun,
+    /// The source files failed.
+    Depot,
+    /// The table's file failed.
+    Disk,
+    /// The output failed.
+    Sink,
+    /// No memory was found.
+    Memory,
+}
+
+/// How a command ended, as the exit status tells it: 0, 2, 3, 4, 5, 6, 7 in this order.
+#[derive(Clone, Copy, Debug, PartialEq, Eq)]
+pub enum Status {
+    Done,
+    Usage,
+    Flow,
+    Source,
+    Device,
+    Memory,
+    Table,
+}
+
+/// How a command ended, and why, where it wasn't done.
+#[derive(Clone, Copy, Debug, PartialEq, Eq)]
+pub struct Ending {
+    pub status: Status,
+    pub reason: Option<Reason>,
+}
+
+impl Reason {
+    pub fn status(&self) -> Status
+        ensures { result ≡ status_of self.now }
+    {
+        match self {
+            Reason::Usage => Status::Usage,
+            Reason::FlowMissing => Status::Flow,
+            Reason::NotBuilt {
+                what: Unbuilt::Flow,
+            } => Status::Flow,
+            Reason::NotBuilt {
+                what: Unbuilt::Source,
+            } => Status::Source,
+            Reason::AlreadyBegun => Status::Table,
+            Reason::Depot | Reason::Disk | Reason::Sink => Status::Device,
+            Reason::Memory => Status::Memory,
+        }
+    }
+}
+
+impl From<AllocError> for Reason {
+    ghost from_gives = { λ _ e. e ≡ why.Memory };
+
+    fn from(_: AllocError) -> Self {
+        Reason::Memory
+    }
+}
+
+impl Status {
+    /// The program's exit status.
+    pub fn code(self) -> u8
+        ensures { result ≡ exit_status_of self }
+    {
+        match self {
+            Status::Done => 0,
+            Status::Usage => 2,
+            Status::Flow => 3,
+            Status::Source => 4,
+            Status::Device => 5,
+            Status::Memory => 6,
+            Status::Table => 7,
+        }
+    }
+}

@@ -1,0 +1,14 @@
+use Rattle.std.proofs.Common.{◌≡◌, length, map, arith, ap, sym}
+use Rattle.workflow_file.specs.Kept.{KeepsSource}
+use Rattle.workflow_file.proofs.Names.{int_schema, all_ints}
+use Rattle.workflow_file.proofs.plain.plain_of.Goals as goal
+
+pub of-requires : goal.of-requires
+of-requires c =
+    let source = c.index-sources-0.result in
+    let keeps : KeepsSource source = rw (c.index-sources-0.is, c.items-sources.ensures) (c.requires 0 source (omega (arith, ap length c.items-sources.ensures))) in
+    let columns = keeps.columns in
+    rw c.in_ok-columns.ensures (int_schema c.items.result.now (rw c.items.ensures columns.some) (rw c.items.ensures columns.few) (sym (rw (c.deref.ensures.value, c.in_ok-columns.ensures) at c.if-not-are_distinct.ensures)))
+
+pub returns-clause-ints : goal.returns-clause-ints
+returns-clause-ints c = rw (c.of.ensures, c.in_ok-columns.ensures) (all_ints c.items.result.now)

@@ -1,0 +1,6 @@
+pub mod Texts
+pub mod Parts
+pub mod Flows
+pub mod Views
+pub mod Kept
+pub mod Plain

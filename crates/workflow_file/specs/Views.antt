@@ -1,0 +1,28 @@
+-- What the code's rules and parts stand for.
+use Rattle.std.specs.Prelude.{ℕ, List, map, Option}
+use Rattle.toml.specs.View.{table_view}
+use Rattle.workflow_file.specs.declared.fault.Lack.{Lack}
+use Rattle.workflow_file.specs.declared.rule.Rule.{Rule}
+use Rattle.workflow_file.specs.declared.rule.Rule.TheVariants as rule
+use Rattle.workflow_file.specs.declared.part.Part.{Part as CodePart}
+use Rattle.workflow_file.specs.declared.sections.Sections.{Sections as CodeSections}
+use Rattle.workflow_file.specs.declared.sections.Front.{Front as CodeFront}
+use Rattle.workflow_file.specs.Texts.{name_lack, file_lack, column_lack, either_lack}
+use Rattle.workflow_file.specs.Parts.{Part}
+use Rattle.workflow_file.specs.Flows.{Sections, Front}
+
+-- what a text lacks under the rule
+abbrev pub lack_by : Rule → List ℕ → Option Lack
+lack_by rule.Name = name_lack
+lack_by rule.File = file_lack
+lack_by rule.Column = column_lack
+lack_by (rule.Either one other) = either_lack one.now other.now
+
+abbrev pub part_of : CodePart → Part
+part_of p = record { section = p.section; index = p.index; members = table_view p.table.now }
+
+abbrev pub sections_of : CodeSections → Sections
+sections_of s = record { table = table_view s.table.now; sources = map (λ t. table_view t.now) s.sources.items; nodes = map (λ t. table_view t.now) s.nodes.items }
+
+abbrev pub front_of : CodeFront → Front
+front_of f = record { table = f.table; sources = f.sources; nodes = map (λ t. table_view t.now) f.nodes.items }
