@@ -98,7 +98,10 @@ fn is_file_name(text: &[u8]) -> bool
     if text.is_empty() || text.len() > 100 {
         return false;
     }
-    are_file_bytes(text) && text[0] != b'.' && !is_word(text, "flow.toml") && !is_word(text, "table.whl")
+    are_file_bytes(text)
+        && text[0] != b'.'
+        && !is_word(text, "flow.toml")
+        && !is_word(text, "table.whl")
 }
 
 #[tactic(auto, unfolding(crate::specs::Texts::is_kind))]

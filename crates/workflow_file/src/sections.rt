@@ -45,7 +45,11 @@ fn read_sections(alloc: Global, document: &Table) -> Result<Sections<'_>, Stop<F
     let sources = part.tables(alloc, "source", 1, 16)?;
     let nodes = part.tables_if(alloc, "node", 0, 64)?;
     part.only(alloc, &["table", "source", "node"])?;
-    Ok(Sections { table, sources, nodes })
+    Ok(Sections {
+        table,
+        sources,
+        nodes,
+    })
 }
 
 #[tactic(auto, unfolding(crate::specs::Flows::raw_table_in))]
@@ -80,7 +84,12 @@ fn read_source(alloc: Global, index: u32, table: &Table) -> Result<RawSource, St
     let promise = part.text(alloc, "promise", &Rule::Either("seq", "set"))?;
     let key = part.texts_if(alloc, "key", &Rule::Name)?;
     let grouped = part.texts_if(alloc, "grouped", &Rule::Name)?;
-    part.only(alloc, &["name", "file", "format", "header", "columns", "promise", "key", "grouped"])?;
+    part.only(
+        alloc,
+        &[
+            "name", "file", "format", "header", "columns", "promise", "key", "grouped",
+        ],
+    )?;
     Ok(RawSource {
         name,
         file,
