@@ -1,4 +1,5 @@
 pub mod Texts
+pub mod Nodes
 pub mod Parts
 pub mod Flows
 pub mod Views

@@ -1,21 +1,18 @@
 // Plain flows: a single source, whose rows are loaded as they are.
 ghost use Rattle.std.specs.Prelude.{◌≡◌, ◌≤◌, length, map, option_map, vec_len, All, bytes_eq, IfOk, IfSome, IsUtf8, Some, None};
 ghost use Rattle.std.specs.List.{list_all, list_any};
-ghost use Rattle.toml.specs.View.{table_view};
-ghost use Rattle.toml.specs.Parse.{parse_document};
 ghost use Rattle.tuple_schema.specs.Schemas.{are_distinct, IsSchema};
 ghost use Rattle.workflow_file.specs.Texts.{head_of};
-ghost use Rattle.workflow_file.specs.Flows.{document_of};
 ghost use Rattle.workflow_file.specs.Views.{front_of};
 ghost use Rattle.workflow_file.specs.Kept.{KeepsSource};
 ghost use Rattle.workflow_file.specs.Plain.{plain_of, plain_flow, plain_with, is_plain, int_column, is_int_column, IsInt};
 
+use crate::flow::document_of;
 use crate::part::text_of;
 use crate::raw::{RawSource, RawTable};
 use crate::rule::{head_of, rest_of};
 use crate::sections::{Front, read_front};
 use std::alloc::Global;
-use toml::Table;
 use tuple_schema::{Column, ColumnKind, Memory, Schema, Stop, Text};
 
 /// What a plain flow loads: whole numbers of one source, in the order of its file.
@@ -40,22 +37,6 @@ pub fn read_plain(alloc: Global, bytes: &[u8]) -> Result<Option<PlainFlow>, Memo
         Ok(front) => plain_of(alloc, &front),
         Err(Stop::Memory) => Err(Memory),
         Err(Stop::Fault(_)) => Ok(None),
-    }
-}
-
-/// The document that the bytes are, if they are one.
-#[tactic(auto, using(crate::proofs::Documents::known, crate::proofs::Documents::unknown))]
-pub fn document_of(alloc: Global, bytes: &[u8]) -> Result<Option<Table>, Memory>
-    ensures { IfOk result (λ o. option_map table_view o ≡ document_of bytes.now) }
-{
-    match toml::table_from_slice(alloc, bytes) {
-        Ok(document) => Ok(Some(document)),
-        Err(e) => {
-            if e.is_memory() {
-                return Err(Memory);
-            }
-            Ok(None)
-        }
     }
 }
 

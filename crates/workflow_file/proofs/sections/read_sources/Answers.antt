@@ -4,7 +4,7 @@ use Rattle.toml.specs.View.{table_view}
 use Rattle.tuple_schema.specs.Stops.{Fails}
 use Rattle.workflow_file.specs.Flows.{raw_source_in}
 use Rattle.workflow_file.proofs.Loops.{goes_on, ends, is_done}
-use Rattle.workflow_file.proofs.Readings.{sources_keep}
+use Rattle.workflow_file.proofs.Laws.{sources_keep}
 use Rattle.workflow_file.proofs.sections.read_sources.Goals as goal
 
 pub returns-in_err-read_source-clause-given : goal.returns-in_err-read_source-clause-given
