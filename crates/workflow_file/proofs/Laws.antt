@@ -17,7 +17,7 @@ use Rattle.workflow_file.specs.declared.raw.RawFlow.{RawFlow}
 use Rattle.workflow_file.specs.Texts.{name_lack, file_lack, column_lack, either_lack, expression_lack, projection_lack, pair_lack, assignment_lack, make_lack}
 use Rattle.workflow_file.specs.Nodes.{kind_lack, keys_of, order_lack, declaration_lack}
 use Rattle.workflow_file.specs.Parts.{Part, each}
-use Rattle.workflow_file.specs.Flows.{Sections, Front, top_of, table_of, source_of, source_keys, node_of, sections_in, raw_table_in, raw_source_in, inputs_in, lists_in, words_in, raw_node_in, front_in, flow_in, document_of, flow_of, flow}
+use Rattle.workflow_file.specs.Flows.{Sections, top_of, table_of, source_of, source_keys, node_of, sections_in, raw_table_in, raw_source_in, inputs_in, lists_in, words_in, raw_node_in, flow_in, document_of, flow_of, flow}
 use Rattle.workflow_file.specs.Kept.{KeepsRule, KeepRule, AreNames, HasKey, KeepsTable, KeepsSource, KeepsNode, KeepsRules}
 use Rattle.workflow_file.proofs.Readings.{Keeps, IsShape, IsCounted, step, gives, each_keeps, no_other_keeps, text_keeps, text_if_keeps, texts_between_keep, texts_if_keep, text_among_keeps, texts_among_keep, table_at_keeps, tables_at_keep, tables_if_keep}
 
@@ -122,32 +122,17 @@ node_keeps n ms =
       on = lists.on; test = words.test; columns = lists.columns; set = lists.set; by = lists.by; make = lists.make;
       order = words.order; column = words.column; declare = declare_keeps }))))))))
 
-pub record KeepsFront (f : Front) : Type 0 where
-  pub table : KeepsTable f.table
-  pub counted : IsCounted 1 16 f.sources
-  pub sources : All KeepsSource f.sources
-  pub nodes : IsCounted 0 64 f.nodes
-
-pub front_keeps : (ms : Members) → Keeps KeepsFront (front_in ms)
-unfolding front_in
-front_keeps ms =
-    step _ _ (sections_keep ms) (λ sections few.
-    step _ _ (table_keeps sections.table) (λ table table_is.
-    step _ _ (each_keeps KeepsSource raw_source_in source_keeps 1 sections.sources) (λ sources all.
-    gives (record { table = table_is; counted = rw all.0 few.sources; sources = all.1; nodes = few.nodes }))))
-
 flow_keeps : (ms : Members) → Keeps KeepsRules (flow_in ms)
 unfolding flow_in
 flow_keeps ms =
-    step _ _ (front_keeps ms) (λ front keeps.
-    step _ _ (each_keeps KeepsNode raw_node_in node_keeps 1 front.nodes) (λ nodes all.
+    step _ _ (sections_keep ms) (λ sections few.
+    step _ _ (table_keeps sections.table) (λ table table_is.
+    step _ _ (each_keeps KeepsSource raw_source_in source_keeps 1 sections.sources) (λ sources all_sources.
+    step _ _ (each_keeps KeepsNode raw_node_in node_keeps 1 sections.nodes) (λ nodes all_nodes.
     gives (record {
-      table = keeps.table; some_sources = keeps.counted.0; few_sources = keeps.counted.1; sources = keeps.sources;
-      few_nodes = rw all.0 keeps.nodes.1; nodes = all.1 })))
-
-pub sources_keep : (tables : List Members) (sources : List RawSource) → each raw_source_in 1 tables ≡ Ok sources → All KeepsSource sources
-sources_keep tables sources h =
-    let all = rw h at (each_keeps KeepsSource raw_source_in source_keeps 1 tables).kept in all.1
+      table = table_is;
+      some_sources = rw all_sources.0 few.sources.0; few_sources = rw all_sources.0 few.sources.1; sources = all_sources.1;
+      few_nodes = rw all_nodes.0 few.nodes.1; nodes = all_nodes.1 })))))
 
 not_toml : (f : FlowFault) → IsShape f → f ≡ fault.NotToml → ⊥
 not_toml fault.NotToml shape e = shape

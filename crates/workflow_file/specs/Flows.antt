@@ -114,35 +114,24 @@ raw_node_in n ms = do
   _ ← no_other (node_of n ms) (keys_of kind)
   Ok (node_with name kind inputs lists words declare)
 
--- a flow up to its nodes, which are yet to be read
-pub record Front : Type 0 where
-  pub table : RawTable
-  pub sources : List RawSource
-  pub nodes : List Members
-
-unfoldable pub front_in : Members → Result Front FlowFault
-front_in ms = do
+-- the flow that a document is: top, table, sources and nodes, one after another
+unfoldable pub flow_in : Members → Result RawFlow FlowFault
+flow_in ms = do
   sections ← sections_in ms
   table ← raw_table_in sections.table
   sources ← each raw_source_in 1 sections.sources
-  Ok (record { table = table; sources = sources; nodes = sections.nodes })
-
--- the flow that a document is
-unfoldable pub flow_in : Members → Result RawFlow FlowFault
-flow_in ms = do
-  front ← front_in ms
-  nodes ← each raw_node_in 1 front.nodes
-  Ok (record { table = front.table; sources = front.sources; nodes = nodes })
+  nodes ← each raw_node_in 1 sections.nodes
+  Ok (record { table = table; sources = sources; nodes = nodes })
 
 -- the document that bytes are: bytes that are no text have none
 unfoldable pub document_of : List ℕ → Option Members
 document_of bytes = if is_utf8 bytes then parse_document bytes else None
 
--- the flow that this is a document of, if it is one
+-- the flow that the document is, where there is one
 abbrev pub flow_of : Option Members → Result RawFlow FlowFault
 flow_of None = Err fault.NotToml
 flow_of (Some ms) = flow_in ms
 
--- the flow that bytes are
+-- the flow that bytes are, or their first fault
 unfoldable pub flow : List ℕ → Result RawFlow FlowFault
 flow bytes = flow_of (document_of bytes)

@@ -8,7 +8,7 @@ ghost use Rattle.workflow_file.specs.Kept.{KeepsRules};
 
 use crate::fault::FlowFault;
 use crate::raw::RawFlow;
-use crate::sections::{read_front, read_nodes};
+use crate::sections::{read_nodes, read_sections, read_sources, read_table};
 use std::alloc::Global;
 use toml::Table;
 use tuple_schema::{Memory, Stop};
@@ -41,18 +41,20 @@ fn read_bytes(alloc: Global, bytes: &[u8]) -> Result<RawFlow, Stop<FlowFault>>
 fn read_document(alloc: Global, document: &Table) -> Result<RawFlow, Stop<FlowFault>>
     ensures { Gives result (flow_in (table_view document.now)) }
 {
-    let front = read_front(alloc, document)?;
-    let nodes = read_nodes(alloc, &front.nodes)?;
+    let sections = read_sections(alloc, document)?;
+    let table = read_table(alloc, sections.table)?;
+    let sources = read_sources(alloc, &sections.sources)?;
+    let nodes = read_nodes(alloc, &sections.nodes)?;
     Ok(RawFlow {
-        table: front.table,
-        sources: front.sources,
+        table,
+        sources,
         nodes,
     })
 }
 
-/// The document that the bytes are, if they are one.
+// The document that the bytes are, if they are one.
 #[tactic(auto, using(crate::proofs::Documents::known, crate::proofs::Documents::unknown))]
-pub fn document_of(alloc: Global, bytes: &[u8]) -> Result<Option<Table>, Memory>
+fn document_of(alloc: Global, bytes: &[u8]) -> Result<Option<Table>, Memory>
     ensures { IfOk result (λ o. option_map table_view o ≡ document_of bytes.now) }
 {
     match toml::table_from_slice(alloc, bytes) {

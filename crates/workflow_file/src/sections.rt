@@ -1,12 +1,11 @@
 // The sections of a flow file, each with its keys in order.
-ghost use Rattle.std.specs.Prelude.{◌≡◌, ◌≤◌, length, map, vec_len, All, IfOk};
+ghost use Rattle.std.specs.Prelude.{◌≡◌, ◌≤◌, length, map, vec_len, IfOk};
 ghost use Rattle.toml.specs.View.{table_view};
 ghost use Rattle.tuple_schema.specs.Stops.{Gives, GivesView};
-ghost use Rattle.workflow_file.specs.Views.{part_of, sections_of, front_of};
+ghost use Rattle.workflow_file.specs.Views.{part_of, sections_of};
 ghost use Rattle.workflow_file.specs.Nodes.{keys_of};
 ghost use Rattle.workflow_file.specs.Parts.{each, no_other};
-ghost use Rattle.workflow_file.specs.Kept.{KeepsSource};
-ghost use Rattle.workflow_file.specs.Flows.{sections_in, raw_table_in, raw_source_in, inputs_in, lists_in, words_in, node_with, raw_node_in, front_in};
+ghost use Rattle.workflow_file.specs.Flows.{sections_in, raw_table_in, raw_source_in, inputs_in, lists_in, words_in, node_with, raw_node_in};
 
 use crate::fault::{FlowFault, Section};
 use crate::part::Part;
@@ -25,16 +24,9 @@ pub struct Sections<'a> {
     pub nodes: Vec<&'a Table>,
 }
 
-/// A flow up to its nodes, which are yet to be read.
-#[derive(Drop)]
-pub struct Front<'a> {
-    pub table: RawTable,
-    pub sources: RawSources,
-    pub nodes: Vec<&'a Table>,
-}
-
+/// The tables of the sections of a document.
 #[tactic(auto, unfolding(crate::specs::Flows::sections_in))]
-fn read_sections(alloc: Global, document: &Table) -> Result<Sections<'_>, Stop<FlowFault>>
+pub fn read_sections(alloc: Global, document: &Table) -> Result<Sections<'_>, Stop<FlowFault>>
     ensures few_sources { IfOk result (λ s. vec_len s.sources ≤ 16) }
     ensures few_nodes { IfOk result (λ s. vec_len s.nodes ≤ 64) }
     ensures given { GivesView sections_of result (sections_in (table_view document.now)) }
@@ -56,7 +48,7 @@ fn read_sections(alloc: Global, document: &Table) -> Result<Sections<'_>, Stop<F
 }
 
 #[tactic(auto, unfolding(crate::specs::Flows::raw_table_in))]
-fn read_table(alloc: Global, table: &Table) -> Result<RawTable, Stop<FlowFault>>
+pub fn read_table(alloc: Global, table: &Table) -> Result<RawTable, Stop<FlowFault>>
     ensures { Gives result (raw_table_in (table_view table.now)) }
 {
     let part = Part {
@@ -105,10 +97,10 @@ fn read_source(alloc: Global, index: u32, table: &Table) -> Result<RawSource, St
     })
 }
 
-fn read_sources(alloc: Global, tables: &[&Table]) -> Result<RawSources, Stop<FlowFault>>
+/// The sources that the tables are.
+pub fn read_sources(alloc: Global, tables: &[&Table]) -> Result<RawSources, Stop<FlowFault>>
     requires { length tables.now ≤ 16 }
-    ensures kept { IfOk result (All KeepsSource) }
-    ensures given { Gives result (each raw_source_in 1 (map (λ t. table_view t.now) tables.now)) }
+    ensures { Gives result (each raw_source_in 1 (map (λ t. table_view t.now) tables.now)) }
 {
     let mut sources = RawSources::new(alloc);
     let mut index: u32 = 1;
@@ -214,21 +206,4 @@ pub fn read_nodes(alloc: Global, tables: &[&Table]) -> Result<RawNodes, Stop<Flo
         index += 1;
     }
     Ok(nodes)
-}
-
-/// The flow up to its nodes.
-#[tactic(auto, unfolding(crate::specs::Flows::front_in))]
-pub fn read_front(alloc: Global, document: &Table) -> Result<Front<'_>, Stop<FlowFault>>
-    ensures few { IfOk result (λ f. vec_len f.nodes ≤ 64) }
-    ensures kept { IfOk result (λ f. All KeepsSource f.sources) }
-    ensures given { GivesView front_of result (front_in (table_view document.now)) }
-{
-    let sections = read_sections(alloc, document)?;
-    let table = read_table(alloc, sections.table)?;
-    let sources = read_sources(alloc, &sections.sources)?;
-    Ok(Front {
-        table,
-        sources,
-        nodes: sections.nodes,
-    })
 }
