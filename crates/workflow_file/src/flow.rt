@@ -67,3 +67,6 @@ fn document_of(alloc: Global, bytes: &[u8]) -> Result<Option<Table>, Memory>
         }
     }
 }
+
+#[cfg(test)]
+mod tests;
