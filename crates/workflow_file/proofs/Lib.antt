@@ -4,3 +4,5 @@ pub mod Keys
 pub mod Documents
 pub mod Names
 pub mod Readings
+pub mod Steps
+pub mod Laws

@@ -1,4 +1,6 @@
+pub mod Words
 pub mod Texts
+pub mod Nodes
 pub mod Parts
 pub mod Flows
 pub mod Views

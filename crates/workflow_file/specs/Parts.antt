@@ -1,6 +1,5 @@
 -- How the keys of a table are read: each value by its rule, or the fault at its place.
-use Rattle.std.specs.Prelude.{ℕ, ◌+◌, List, [], ◌∷◌, length, bytes_eq, nat_lt, if◌then◌else◌, Option, Some, None, Result, Ok, Err}
-use Rattle.std.specs.List.{list_any}
+use Rattle.std.specs.Prelude.{ℕ, ◌+◌, List, [], ◌∷◌, length, Bool, true, false, nat_lt, if◌then◌else◌, Option, Some, None, Result, Ok, Err}
 use Rattle.toml.specs.Data.{Data, string, array, table, Items, no_items, item, Members, no_members, member, get_member}
 use Rattle.tuple_schema.specs.Stops.{◌>>=◌}
 use Rattle.workflow_file.specs.declared.fault.Section.{Section}
@@ -8,7 +7,7 @@ use Rattle.workflow_file.specs.declared.fault.Lack.{Lack}
 use Rattle.workflow_file.specs.declared.fault.Lack.TheVariants as lack
 use Rattle.workflow_file.specs.declared.fault.FlowFault.{FlowFault}
 use Rattle.workflow_file.specs.declared.fault.FlowFault.TheVariants as fault
-use Rattle.workflow_file.specs.Texts.{text_lack}
+use Rattle.workflow_file.specs.Texts.{is_among, text_lack}
 
 -- a table of the document, and where it stands in the flow file
 pub record Part : Type 0 where
@@ -88,7 +87,7 @@ tables_in least most part key d = do
 -- the first key beside the known ones; the keys of a table ascend by their bytes, so it is the least
 unfoldable pub other_key : List (List ℕ) → Members → Option (List ℕ)
 other_key known no_members = None
-other_key known (member key d ms) = if list_any (bytes_eq key) known then other_key known ms else Some key
+other_key known (member key d ms) = if is_among known key then other_key known ms else Some key
 
 -- the key as it stands in a place: a key that is longer than a text may be stands there as the empty text
 abbrev pub key_of : List ℕ → List ℕ
@@ -102,19 +101,30 @@ none_other part (Some key) = Err (lacks part (key_of key) 0 lack.Unknown)
 unfoldable pub no_other : Part → List (List ℕ) → Result Unit FlowFault
 no_other part known = none_other part (other_key known part.members)
 
+-- what is read at a key, where there is such a key
+abbrev pub where_known : {X F : Type 0} → Bool → Result X F → Result (Option X) F
+where_known false reading = Ok None
+where_known true reading = do
+  x ← reading
+  Ok (Some x)
+
 module _ (part : Part) (key : List ℕ) where
-  -- a text, a list of texts, a table and a list of tables, at a key that has to be there
+  -- a text, a list of so many texts, a table and a list of tables, at a key that has to be there
   abbrev pub text_at : (List ℕ → Option Lack) → Result (List ℕ) FlowFault
   text_at rule = present (lacks part key 0 lack.Absent) (text_in rule part key 0) (get_member key part.members)
 
-  abbrev pub texts_at : (List ℕ → Option Lack) → Result (List (List ℕ)) FlowFault
-  texts_at rule = present (lacks part key 0 lack.Absent) (texts_in rule 1 64 part key) (get_member key part.members)
+  abbrev pub texts_between : ℕ → ℕ → (List ℕ → Option Lack) → Result (List (List ℕ)) FlowFault
+  texts_between least most rule = present (lacks part key 0 lack.Absent) (texts_in rule least most part key) (get_member key part.members)
 
   abbrev pub table_at : Result Members FlowFault
   table_at = present (lacks part key 0 lack.Absent) (table_in part key 0) (get_member key part.members)
 
   abbrev pub tables_at : ℕ → ℕ → Result (List Members) FlowFault
   tables_at least most = present (lacks part key 0 lack.Absent) (tables_in least most part key) (get_member key part.members)
+
+  -- where nothing else is said, a list has 1 to 64 items
+  abbrev pub texts_at : (List ℕ → Option Lack) → Result (List (List ℕ)) FlowFault
+  texts_at rule = texts_between 1 64 rule
 
   -- the same at a key that may be absent
   abbrev pub text_if : (List ℕ → Option Lack) → Result (Option (List ℕ)) FlowFault
@@ -123,6 +133,12 @@ module _ (part : Part) (key : List ℕ) where
   abbrev pub texts_if : (List ℕ → Option Lack) → Result (Option (List (List ℕ))) FlowFault
   texts_if rule = optional (texts_in rule 1 64 part key) (get_member key part.members)
 
-  -- where it is absent, there is none
   abbrev pub tables_if : ℕ → ℕ → Result (List Members) FlowFault
   tables_if least most = or_none (tables_in least most part key) (get_member key part.members)
+
+  -- the same at a key that has to be there if it is among these, and is none otherwise
+  abbrev pub text_among : List (List ℕ) → (List ℕ → Option Lack) → Result (Option (List ℕ)) FlowFault
+  text_among keys rule = where_known (is_among keys key) (text_at rule)
+
+  abbrev pub texts_among : List (List ℕ) → ℕ → ℕ → (List ℕ → Option Lack) → Result (Option (List (List ℕ))) FlowFault
+  texts_among keys least most rule = where_known (is_among keys key) (texts_between least most rule)

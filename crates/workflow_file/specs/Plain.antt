@@ -1,15 +1,17 @@
 -- Plain flows: a single source, whose rows are loaded as they are.
 use Rattle.std.specs.Prelude.{ℕ, List, [], ◌∷◌, map, codes, bytes_eq, Bool, false, ◌&&◌, is_none, if◌then◌else◌, Option, Some, None, Result, Ok, Err, option_and_then, ◌≡◌}
 use Rattle.std.specs.List.{list_all}
-use Rattle.toml.specs.Data.{Members}
+use Rattle.std.specs.Result.{result_ok}
 use Rattle.tuple_schema.specs.declared.schema.Column.{Column}
 use Rattle.tuple_schema.specs.declared.schema.ColumnKind.TheVariants as kind
 use Rattle.tuple_schema.specs.Schemas.{are_distinct}
 use Rattle.workflow_file.specs.declared.raw.RawTable.{RawTable}
 use Rattle.workflow_file.specs.declared.raw.RawSource.{RawSource}
+use Rattle.workflow_file.specs.declared.raw.RawNode.{RawNode}
+use Rattle.workflow_file.specs.declared.raw.RawFlow.{RawFlow}
 use Rattle.workflow_file.specs.declared.plain.PlainFlow.{PlainFlow}
 use Rattle.workflow_file.specs.Texts.{head_of, rest_of}
-use Rattle.workflow_file.specs.Flows.{front_in, document_of}
+use Rattle.workflow_file.specs.Flows.{flow}
 
 -- what a plain flow loads: the source's name, its file and its columns
 pub record Plain : Type 0 where
@@ -54,19 +56,14 @@ plain_source table source =
     then Some (record { name = source.name; file = source.file; columns = columns })
     else None
 
-abbrev pub plain_with : RawTable → List RawSource → List Members → Option Plain
+abbrev pub plain_with : RawTable → List RawSource → List RawNode → Option Plain
 plain_with table (source ∷ []) [] = plain_source table source
 plain_with table sources nodes = None
 
--- the value of a reading that has no fault
-abbrev pub value_of : {X F : Type 0} → Result X F → Option X
-value_of (Ok x) = Some x
-value_of (Err f) = None
-
--- the plain flow that a document is: its front has no fault, there are no nodes, and one plain source
-unfoldable pub plain_in : Members → Option Plain
-plain_in ms = option_and_then (λ front. plain_with front.table front.sources front.nodes) (value_of (front_in ms))
+-- one plain source, and no nodes
+abbrev pub plain : RawFlow → Option Plain
+plain flow = plain_with flow.table flow.sources flow.nodes
 
 -- the plain flow that the bytes are
 unfoldable pub plain_flow : List ℕ → Option Plain
-plain_flow bytes = option_and_then plain_in (document_of bytes)
+plain_flow bytes = option_and_then plain (result_ok (flow bytes))

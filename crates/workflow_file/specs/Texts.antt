@@ -1,6 +1,6 @@
 -- The forms of the texts in a flow file, and what a text out of form lacks.
-use Rattle.std.specs.Prelude.{ℕ, ◌-◌, ◌==◌, List, length, take, slice_index, codes, bytes_eq, Bool, false, not, ◌&&◌, ◌||◌, nat_lt, nat_le, if◌then◌else◌, Option, Some, None}
-use Rattle.std.specs.List.{list_all, position_or_len, before_first, after_first}
+use Rattle.std.specs.Prelude.{ℕ, ◌-◌, ◌==◌, List, length, take, drop, slice_index, codes, bytes_eq, Bool, true, false, not, ◌&&◌, ◌||◌, nat_lt, nat_le, if◌then◌else◌, Option, Some, None}
+use Rattle.std.specs.List.{list_all, list_any, position_or_len, before_first, after_first}
 use Rattle.workflow_file.specs.declared.fault.Lack.{Lack}
 use Rattle.workflow_file.specs.declared.fault.Lack.TheVariants as lack
 
@@ -66,6 +66,41 @@ abbrev pub is_column_rest : Option (List ℕ) → Bool
 is_column_rest None = false
 is_column_rest (Some word) = is_kind (without_mark word)
 
+-- the text is one of the words
+abbrev pub is_among : List (List ℕ) → List ℕ → Bool
+is_among words text = list_any (bytes_eq text) words
+
+-- the text begins with the word
+abbrev pub begins : List ℕ → List ℕ → Bool
+begins word text = bytes_eq (take (length word) text) word
+
+-- the text is the word, and then a name
+abbrev pub names_behind : List ℕ → List ℕ → Bool
+names_behind word text = begins word text && is_name (drop (length word) text)
+
+-- nothing, or `as` and a name
+abbrev pub is_projection_rest : Option (List ℕ) → Bool
+is_projection_rest None = true
+is_projection_rest (Some rest) = names_behind (codes "as ") rest
+
+-- nothing, or `=` and a name
+abbrev pub is_pair_rest : Option (List ℕ) → Bool
+is_pair_rest None = true
+is_pair_rest (Some rest) = names_behind (codes "= ") rest
+
+-- `=`, a space, and any expression, which may be empty here
+abbrev pub is_assignment_rest : Option (List ℕ) → Bool
+is_assignment_rest None = false
+is_assignment_rest (Some rest) = begins (codes "= ") rest
+
+-- `=`, and `count`, or `count`, `sum`, `min` or `max` with a name
+abbrev pub is_make_rest : Option (List ℕ) → Bool
+is_make_rest None = false
+is_make_rest (Some rest) =
+    bytes_eq rest (codes "= count")
+    || ((names_behind (codes "= count ") rest || names_behind (codes "= sum ") rest)
+    || (names_behind (codes "= min ") rest || names_behind (codes "= max ") rest))
+
 -- nothing is lacking, or this
 abbrev pub lack_unless : Bool → Lack → Option Lack
 lack_unless fine what = if fine then None else Some what
@@ -80,13 +115,30 @@ file_lack text = lack_unless (is_file_name text) lack.BadName
 abbrev pub either_lack : List ℕ → List ℕ → List ℕ → Option Lack
 either_lack one other text = lack_unless (bytes_eq text one || bytes_eq text other) lack.BadWord
 
+-- any text will do
+abbrev pub expression_lack : List ℕ → Option Lack
+expression_lack text = None
+
 -- what a text lacks that is a name, and then a rest of this form
 abbrev pub headed_lack : (Option (List ℕ) → Bool) → List ℕ → Option Lack
-headed_lack is_rest text = if is_name (head_of text) then lack_unless (is_rest (rest_of text)) lack.BadWord else Some lack.BadName
+headed_lack is_rest text =
+    if is_name (head_of text) then lack_unless (is_rest (rest_of text)) lack.BadWord else Some lack.BadName
 
--- `NAME KIND`
+-- `NAME KIND`, `NAME` or `NAME as NAME`, `NAME` or `NAME = NAME`, `NAME = EXPRESSION`, and `NAME = AGGREGATE`
 abbrev pub column_lack : List ℕ → Option Lack
 column_lack = headed_lack is_column_rest
+
+abbrev pub projection_lack : List ℕ → Option Lack
+projection_lack = headed_lack is_projection_rest
+
+abbrev pub pair_lack : List ℕ → Option Lack
+pair_lack = headed_lack is_pair_rest
+
+abbrev pub assignment_lack : List ℕ → Option Lack
+assignment_lack = headed_lack is_assignment_rest
+
+abbrev pub make_lack : List ℕ → Option Lack
+make_lack = headed_lack is_make_rest
 
 -- a text of a flow file has 1 to 4,096 bytes, and its own form
 abbrev pub text_lack : (List ℕ → Option Lack) → List ℕ → Option Lack

@@ -1,4 +1,7 @@
 // Where a flow file has a fault, and which.
+ghost use Rattle.std.specs.Prelude.{◌≡◌};
+ghost use Rattle.workflow_file.specs.Words.{section_text, lack_text};
+
 use std::fmt;
 use thiserror::Error;
 use tuple_schema::Text;
@@ -10,6 +13,20 @@ pub enum Section {
     Table,
     Source,
     Node,
+}
+
+impl Section {
+    /// The section's name in messages.
+    pub fn text(self) -> &'static str
+        ensures { result.now ≡ section_text self }
+    {
+        match self {
+            Section::Top => "top",
+            Section::Table => "table",
+            Section::Source => "source",
+            Section::Node => "node",
+        }
+    }
 }
 
 /// What is wrong at a place.
@@ -31,6 +48,26 @@ pub enum Lack {
     BadWord,
     /// The section has no such key.
     Unknown,
+}
+
+impl Lack {
+    /// The words for it in messages.
+    pub fn text(self) -> &'static str
+        ensures { result.now ≡ lack_text self }
+    {
+        match self {
+            Lack::Absent => "absent",
+            Lack::NotText => "not text",
+            Lack::NotList => "not a list",
+            Lack::NotTable => "not a table",
+            Lack::Empty => "empty",
+            Lack::TooMany => "too many",
+            Lack::TooLong => "too long",
+            Lack::BadName => "bad name",
+            Lack::BadWord => "bad word",
+            Lack::Unknown => "unknown",
+        }
+    }
 }
 
 /// A place in the flow file.

@@ -9,6 +9,8 @@
 #![tactic(auto)]
 
 mod fault;
+mod flow;
+mod node;
 mod part;
 mod plain;
 mod raw;
@@ -16,5 +18,6 @@ mod rule;
 mod sections;
 
 pub use fault::{FlowFault, Lack, Place, Section};
+pub use flow::read_flow;
 pub use plain::{PlainFlow, read_plain};
-pub use raw::{RawSource, RawSources, RawTable};
+pub use raw::{RawFlow, RawNode, RawNodes, RawSource, RawSources, RawTable};

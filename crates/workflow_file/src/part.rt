@@ -5,8 +5,9 @@ ghost use Rattle.std.specs.BTreeMap.{keys};
 ghost use Rattle.toml.specs.Data.{get_member};
 ghost use Rattle.toml.specs.View.{view, table_view};
 ghost use Rattle.tuple_schema.specs.Stops.{Gives, GivesView};
+ghost use Rattle.workflow_file.specs.Texts.{is_among};
 ghost use Rattle.workflow_file.specs.Views.{lack_by, part_of};
-ghost use Rattle.workflow_file.specs.Parts.{lacks, each, text_in, table_in, count_lack, items_in, texts_in, tables_in, other_key, no_other, text_at, texts_at, table_at, tables_at, text_if, texts_if, tables_if};
+ghost use Rattle.workflow_file.specs.Parts.{lacks, each, text_in, table_in, count_lack, items_in, texts_in, tables_in, other_key, no_other, text_at, texts_between, texts_at, table_at, tables_at, text_if, texts_if, tables_if, text_among, texts_among};
 
 use crate::fault::{FlowFault, Lack, Place, Section};
 use crate::rule::Rule;
@@ -202,13 +203,33 @@ impl<'a> Part<'a> {
         alloc: Global,
         key: &str,
         value: &Value,
+        counts: (usize, usize),
         rule: &Rule,
     ) -> Result<Names, Stop<FlowFault>>
-        requires { length key.now ≤ 4096 }
-        ensures { Gives result (texts_in (lack_by rule.now) 1 64 (part_of self.now) key.now (view value.now)) }
+        requires short { length key.now ≤ 4096 }
+        requires few { counts.1 ≤ 64 }
+        ensures { Gives result (texts_in (lack_by rule.now) counts.0 counts.1 (part_of self.now) key.now (view value.now)) }
     {
-        let values = self.items_in(alloc, key, value, 1, 64)?;
+        let values = self.items_in(alloc, key, value, counts.0, counts.1)?;
         self.each_text(alloc, key, values, rule)
+    }
+
+    // The texts of a list of so many items at the key.
+    fn texts_between(
+        &self,
+        alloc: Global,
+        key: &str,
+        counts: (usize, usize),
+        rule: &Rule,
+    ) -> Result<Names, Stop<FlowFault>>
+        requires short { length key.now ≤ 4096 }
+        requires few { counts.1 ≤ 64 }
+        ensures { Gives result (texts_between (part_of self.now) key.now counts.0 counts.1 (lack_by rule.now)) }
+    {
+        match self.find(key) {
+            None => self.refuse(alloc, key, 0, Lack::Absent),
+            Some(value) => self.texts_in(alloc, key, value, counts, rule),
+        }
     }
 
     /// The texts of the list at the key.
@@ -216,10 +237,37 @@ impl<'a> Part<'a> {
         requires { length key.now ≤ 4096 }
         ensures { Gives result (texts_at (part_of self.now) key.now (lack_by rule.now)) }
     {
-        match self.find(key) {
-            None => self.refuse(alloc, key, 0, Lack::Absent),
-            Some(value) => self.texts_in(alloc, key, value, rule),
+        self.texts_between(alloc, key, (1, 64), rule)
+    }
+
+    /// The text at the key, if the key is among these, and nothing otherwise.
+    pub fn text_among(&self, alloc: Global, keys: &[&str], key: &str, rule: &Rule) -> Result<Option<Text>, Stop<FlowFault>>
+        requires { length key.now ≤ 4096 }
+        ensures { Gives result (text_among (part_of self.now) key.now (map (λ k. k.now) keys.now) (lack_by rule.now)) }
+    {
+        if !is_known(keys, key) {
+            return Ok(None);
         }
+        Ok(Some(self.text(alloc, key, rule)?))
+    }
+
+    /// The texts of the list at the key, if the key is among these, and nothing otherwise.
+    pub fn texts_among(
+        &self,
+        alloc: Global,
+        keys: &[&str],
+        key: &str,
+        counts: (usize, usize),
+        rule: &Rule,
+    ) -> Result<Option<Names>, Stop<FlowFault>>
+        requires short { length key.now ≤ 4096 }
+        requires few { counts.1 ≤ 64 }
+        ensures { Gives result (texts_among (part_of self.now) key.now (map (λ k. k.now) keys.now) counts.0 counts.1 (lack_by rule.now)) }
+    {
+        if !is_known(keys, key) {
+            return Ok(None);
+        }
+        Ok(Some(self.texts_between(alloc, key, counts, rule)?))
     }
 
     /// The texts of the list at the key, which may be absent.
@@ -234,7 +282,7 @@ impl<'a> Part<'a> {
     {
         match self.find(key) {
             None => Ok(None),
-            Some(value) => Ok(Some(self.texts_in(alloc, key, value, rule)?)),
+            Some(value) => Ok(Some(self.texts_in(alloc, key, value, (1, 64), rule)?)),
         }
     }
 
@@ -329,13 +377,19 @@ fn other_key<'t>(table: &'t Table, known: &[&str]) -> Option<&'t str>
 }
 
 fn first_other<'t>(table: &'t Table, known: &[&str]) -> Option<&'t String>
-    ensures { option_copied result ≡ find (λ k. not (list_any (λ n. bytes_eq (string_bytes k) n.now) known.now)) (keys table.now) }
+    ensures { option_copied result ≡ find (λ k. not (is_among (map (λ n. n.now) known.now) (string_bytes k))) (keys table.now) }
 {
     table.keys().find(|key| !is_known(known, key.as_str()))
 }
 
 fn is_known(known: &[&str], key: &str) -> bool
-    ensures { result ≡ list_any (λ k. bytes_eq key.now k.now) known.now }
+    ensures { result ≡ is_among (map (λ k. k.now) known.now) key.now }
 {
-    known.iter().any(|k| key == *k)
+    is_any(known, key)
+}
+
+fn is_any(words: &[&str], text: &str) -> bool
+    ensures { result ≡ list_any (λ word. bytes_eq text.now word.now) words.now }
+{
+    words.iter().any(|word| text == *word)
 }

@@ -1,21 +1,16 @@
 // Plain flows: a single source, whose rows are loaded as they are.
 ghost use Rattle.std.specs.Prelude.{◌≡◌, ◌≤◌, length, map, option_map, vec_len, All, bytes_eq, IfOk, IfSome, IsUtf8, Some, None};
 ghost use Rattle.std.specs.List.{list_all, list_any};
-ghost use Rattle.toml.specs.View.{table_view};
-ghost use Rattle.toml.specs.Parse.{parse_document};
 ghost use Rattle.tuple_schema.specs.Schemas.{are_distinct, IsSchema};
 ghost use Rattle.workflow_file.specs.Texts.{head_of};
-ghost use Rattle.workflow_file.specs.Flows.{document_of};
-ghost use Rattle.workflow_file.specs.Views.{front_of};
-ghost use Rattle.workflow_file.specs.Kept.{KeepsSource};
-ghost use Rattle.workflow_file.specs.Plain.{plain_of, plain_flow, plain_with, is_plain, int_column, is_int_column, IsInt};
+ghost use Rattle.workflow_file.specs.Kept.{KeepsRules};
+ghost use Rattle.workflow_file.specs.Plain.{plain_of, plain_flow, plain, is_plain, int_column, is_int_column, IsInt};
 
+use crate::flow::read_flow;
 use crate::part::text_of;
-use crate::raw::{RawSource, RawTable};
+use crate::raw::{RawFlow, RawSource, RawTable};
 use crate::rule::{head_of, rest_of};
-use crate::sections::{Front, read_front};
 use std::alloc::Global;
-use toml::Table;
 use tuple_schema::{Column, ColumnKind, Memory, Schema, Stop, Text};
 
 /// What a plain flow loads: whole numbers of one source, in the order of its file.
@@ -27,52 +22,34 @@ pub struct PlainFlow {
 }
 
 /// The plain flow that the bytes are, if they are one.
-#[tactic(auto, unfolding(crate::specs::Plain::plain_flow, crate::specs::Plain::plain_in))]
+#[tactic(auto, unfolding(crate::specs::Plain::plain_flow))]
 pub fn read_plain(alloc: Global, bytes: &[u8]) -> Result<Option<PlainFlow>, Memory>
     requires { length bytes.now ≤ 65536 }
     ensures flow { IfOk result (λ o. option_map plain_of o ≡ plain_flow bytes.now) }
     ensures ints { IfOk result (λ o. IfSome o (λ p. All IsInt p.columns)) }
 {
-    let Some(document) = document_of(alloc, bytes)? else {
-        return Ok(None);
-    };
-    match read_front(alloc, &document) {
-        Ok(front) => plain_of(alloc, &front),
+    match read_flow(alloc, bytes) {
+        Ok(flow) => plain_of(alloc, &flow),
         Err(Stop::Memory) => Err(Memory),
         Err(Stop::Fault(_)) => Ok(None),
     }
 }
 
-/// The document that the bytes are, if they are one.
-#[tactic(auto, using(crate::proofs::Documents::known, crate::proofs::Documents::unknown))]
-pub fn document_of(alloc: Global, bytes: &[u8]) -> Result<Option<Table>, Memory>
-    ensures { IfOk result (λ o. option_map table_view o ≡ document_of bytes.now) }
-{
-    match toml::table_from_slice(alloc, bytes) {
-        Ok(document) => Ok(Some(document)),
-        Err(e) => {
-            if e.is_memory() {
-                return Err(Memory);
-            }
-            Ok(None)
-        }
-    }
-}
-
-fn plain_of(alloc: Global, front: &Front) -> Result<Option<PlainFlow>, Memory>
-    requires { All KeepsSource front.now.sources }
-    ensures flow { IfOk result (λ o. option_map plain_of o ≡ plain_with front.now.table front.now.sources (front_of front.now).nodes) }
+fn plain_of(alloc: Global, flow: &RawFlow) -> Result<Option<PlainFlow>, Memory>
+    requires { KeepsRules flow.now }
+    ensures flow { IfOk result (λ o. option_map plain_of o ≡ plain flow.now) }
     ensures ints { IfOk result (λ o. IfSome o (λ p. All IsInt p.columns)) }
 {
-    let sources = front.sources.items();
-    if sources.len() != 1 || !front.nodes.is_empty() {
+    let sources = flow.sources.items();
+    if sources.len() != 1 || !flow.nodes.items().is_empty() {
         return Ok(None);
     }
     let source = &sources[0];
-    if !is_plain(&front.table, source) {
+    if !is_plain(&flow.table, source) {
         return Ok(None);
     }
-    let columns = int_columns(alloc, source.columns.items())?;
+    let texts = source.columns.items();
+    let columns = int_columns(alloc, texts)?;
     if !are_distinct(&columns) {
         return Ok(None);
     }

@@ -1,10 +1,12 @@
 // The forms of single texts.
-ghost use Rattle.std.specs.Prelude.{◌≡◌, length, bytes_eq, option_copied};
+ghost use Rattle.std.specs.Prelude.{◌≡◌, length, drop, bytes_eq, is_some, option_copied, IfSome};
 ghost use Rattle.std.specs.List.{list_all};
-ghost use Rattle.workflow_file.specs.Texts.{is_lower, is_name_byte, is_file_byte, is_name, is_file_name, is_kind, without_mark, head_of, rest_of, lack_unless, text_lack, column_lack};
+ghost use Rattle.workflow_file.specs.Texts.{is_lower, is_name_byte, is_file_byte, is_name, is_file_name, is_kind, without_mark, head_of, rest_of, lack_unless, text_lack, headed_lack, begins, names_behind, is_column_rest, is_projection_rest, is_pair_rest, is_assignment_rest, is_make_rest};
 ghost use Rattle.workflow_file.specs.Views.{lack_by};
 
 use crate::fault::Lack;
+use crate::node::{is_declaration, is_kind_of_node};
+use crate::raw::Inputs;
 
 /// What a text at a key, or in its list, has to be.
 #[derive(Clone, Copy)]
@@ -14,6 +16,15 @@ pub enum Rule<'a> {
     Column,
     /// One of two words.
     Either(&'a str, &'a str),
+    Kind,
+    /// Any text.
+    Expression,
+    Projection,
+    Assignment,
+    Pair,
+    Make,
+    /// A property of a node with these inputs.
+    Declaration(&'a Inputs),
 }
 
 impl Rule<'_> {
@@ -30,8 +41,15 @@ impl Rule<'_> {
         match self {
             Rule::Name => unless(is_name(text.as_bytes()), Lack::BadName),
             Rule::File => unless(is_file_name(text.as_bytes()), Lack::BadName),
-            Rule::Column => column_lack(text),
+            Rule::Column => headed_lack(text, is_column_rest(rest_of(text))),
             Rule::Either(one, other) => unless(text == *one || text == *other, Lack::BadWord),
+            Rule::Kind => unless(is_kind_of_node(text), Lack::BadWord),
+            Rule::Expression => None,
+            Rule::Projection => headed_lack(text, is_projection_rest(rest_of(text))),
+            Rule::Assignment => headed_lack(text, is_assignment_rest(rest_of(text))),
+            Rule::Pair => headed_lack(text, is_pair_rest(rest_of(text))),
+            Rule::Make => headed_lack(text, is_make_rest(rest_of(text))),
+            Rule::Declaration(inputs) => unless(is_declaration(inputs, text.as_bytes()), Lack::BadWord),
         }
     }
 }
@@ -43,8 +61,8 @@ fn unless(fine: bool, lack: Lack) -> Option<Lack>
     if fine { None } else { Some(lack) }
 }
 
-// Whether the text is this word.
-fn is_word(text: &[u8], word: &str) -> bool
+/// Whether the text is this word.
+pub fn is_word(text: &[u8], word: &str) -> bool
     ensures { result ≡ bytes_eq text.now word.now }
 {
     text == word.as_bytes()
@@ -147,15 +165,79 @@ pub fn rest_of(text: &str) -> Option<&str>
     }
 }
 
-fn column_lack(text: &str) -> Option<Lack>
-    ensures { result ≡ column_lack text.now }
+// What a text lacks that is a name and then a rest, which is fine or not.
+fn headed_lack(text: &str, fine: bool) -> Option<Lack>
+    ensures { result ≡ headed_lack (λ _. fine) text.now }
 {
     if !is_name(head_of(text).as_bytes()) {
         return Some(Lack::BadName);
     }
-    let fine = match rest_of(text) {
+    unless(fine, Lack::BadWord)
+}
+
+fn is_column_rest(rest: Option<&str>) -> bool
+    ensures { result ≡ is_column_rest (option_copied rest.entry) }
+{
+    match rest {
         None => false,
         Some(word) => is_kind(without_mark(word.as_bytes())),
+    }
+}
+
+fn is_projection_rest(rest: Option<&str>) -> bool
+    ensures { result ≡ is_projection_rest (option_copied rest.entry) }
+{
+    match rest {
+        None => true,
+        Some(rest) => names_behind("as ", rest.as_bytes()),
+    }
+}
+
+fn is_pair_rest(rest: Option<&str>) -> bool
+    ensures { result ≡ is_pair_rest (option_copied rest.entry) }
+{
+    match rest {
+        None => true,
+        Some(rest) => names_behind("= ", rest.as_bytes()),
+    }
+}
+
+fn is_assignment_rest(rest: Option<&str>) -> bool
+    ensures { result ≡ is_assignment_rest (option_copied rest.entry) }
+{
+    match rest {
+        None => false,
+        Some(rest) => behind("= ", rest.as_bytes()).is_some(),
+    }
+}
+
+fn is_make_rest(rest: Option<&str>) -> bool
+    ensures { result ≡ is_make_rest (option_copied rest.entry) }
+{
+    let Some(rest) = rest else {
+        return false;
     };
-    unless(fine, Lack::BadWord)
+    let rest = rest.as_bytes();
+    is_word(rest, "= count")
+        || names_behind("= count ", rest)
+        || names_behind("= sum ", rest)
+        || names_behind("= min ", rest)
+        || names_behind("= max ", rest)
+}
+
+/// What follows the word, where the text begins with it.
+pub fn behind<'t>(word: &str, text: &'t [u8]) -> Option<&'t [u8]>
+    ensures found { is_some result ≡ begins word.now text.now }
+    ensures rest { IfSome result (λ r. r.now ≡ drop (length word.now) text.now) }
+{
+    text.strip_prefix(word.as_bytes())
+}
+
+fn names_behind(word: &str, text: &[u8]) -> bool
+    ensures { result ≡ names_behind word.now text.now }
+{
+    match behind(word, text) {
+        None => false,
+        Some(name) => is_name(name),
+    }
 }

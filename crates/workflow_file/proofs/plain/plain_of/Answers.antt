@@ -6,9 +6,9 @@ use Rattle.workflow_file.proofs.plain.plain_of.Goals as goal
 pub of-requires : goal.of-requires
 of-requires c =
     let source = c.index-sources-0.result in
-    let keeps : KeepsSource source = rw (c.index-sources-0.is, c.items-sources.ensures) (c.requires 0 source (omega (arith, ap length c.items-sources.ensures))) in
+    let keeps : KeepsSource source = rw (c.index-sources-0.is, c.items-sources.ensures) (c.requires.sources 0 source (omega (arith, ap length c.items-sources.ensures))) in
     let columns = keeps.columns in
-    rw c.in_ok-columns.ensures (int_schema c.items.result.now (rw c.items.ensures columns.some) (rw c.items.ensures columns.few) (sym (rw (c.deref.ensures.value, c.in_ok-columns.ensures) at c.if-not-are_distinct.ensures)))
+    rw c.in_ok-columns.ensures (int_schema c.items-texts.result.now (rw c.items-texts.ensures columns.some) (rw c.items-texts.ensures columns.few) (sym (rw (c.deref.ensures.value, c.in_ok-columns.ensures) at c.if-not-are_distinct.ensures)))
 
 pub returns-clause-ints : goal.returns-clause-ints
-returns-clause-ints c = rw (c.of.ensures, c.in_ok-columns.ensures) (all_ints c.items.result.now)
+returns-clause-ints c = rw (c.of.ensures, c.in_ok-columns.ensures) (all_ints c.items-texts.result.now)

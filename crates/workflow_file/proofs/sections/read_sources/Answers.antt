@@ -4,11 +4,10 @@ use Rattle.toml.specs.View.{table_view}
 use Rattle.tuple_schema.specs.Stops.{Fails}
 use Rattle.workflow_file.specs.Flows.{raw_source_in}
 use Rattle.workflow_file.proofs.Loops.{goes_on, ends, is_done}
-use Rattle.workflow_file.proofs.Readings.{sources_keep}
 use Rattle.workflow_file.proofs.sections.read_sources.Goals as goal
 
-pub returns-in_err-read_source-clause-given : goal.returns-in_err-read_source-clause-given
-returns-in_err-read_source-clause-given c =
+pub returns-in_err-read_source : goal.returns-in_err-read_source
+returns-in_err-read_source c =
     let p = err_from_is_err_and c.from_residual.result c.from_residual.ensures.1 in
     let fails = subst (λ t. Fails c.in_err-read_source.field-0.0 (raw_source_in c.loop-table.index (table_view t.now))) c.table-item.is c.in_err-read_source.ensures in
     rw (p.1, p.2) (ends c.in_err-read_source.field-0.0 (λ t. table_view t.now) raw_source_in c.loop-table.sources c.loop-table.index c.loop-table.table-index c.args.tables.now c.table-item.result (omega arith) fails c.loop-table.invariant)
@@ -18,8 +17,5 @@ loop-table-preserved c =
     let reads = subst (λ t. raw_source_in c.loop-table.index (table_view t.now) ≡ Ok c.in_ok-read_source.field-0) c.table-item.is c.in_ok-read_source.ensures in
     rw c.in_ok-push.ensures.ok (goes_on (λ t. table_view t.now) raw_source_in c.loop-table.sources c.loop-table.index c.loop-table.table-index c.args.tables.now c.table-item.result c.in_ok-read_source.field-0 (omega arith) reads c.loop-table.invariant)
 
-pub returns-clause-given : goal.returns-clause-given
-returns-clause-given c = is_done (λ t. table_view t.now) raw_source_in c.loop-table.sources c.loop-table.index c.loop-table.table-index c.args.tables.now (omega arith) c.loop-table.invariant
-
-pub returns-clause-kept : goal.returns-clause-kept
-returns-clause-kept c = sources_keep (map (λ t. table_view t.now) c.args.tables.now) c.loop-table.sources (returns-clause-given c)
+pub returns : goal.returns
+returns c = is_done (λ t. table_view t.now) raw_source_in c.loop-table.sources c.loop-table.index c.loop-table.table-index c.args.tables.now (omega arith) c.loop-table.invariant
