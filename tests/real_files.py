@@ -131,11 +131,16 @@ def refusals():
         expect_refusal(what, nums(text), 4, source)
     expect_refusal("no source file", {"flow.toml": FLOW}, 4, source)
     expect_refusal("no flow", {"nums.csv": b"a,b\n1,10\n"}, 3, b"flow.toml is missing")
-    unbuilt = b"flow.toml is not built yet"
-    for what, text in [("a flow that isn't TOML", b"a = "), ("a flow of other bytes", b"\xff\xfe"),
-                       ("an unknown key", FLOW + b"more = 1\n"),
-                       ("a flow of 65,537 bytes", FLOW + b"#" * (65537 - len(FLOW)))]:
-        expect_refusal(what, {"flow.toml": text, "nums.csv": b"a,b\n"}, 3, unbuilt)
+    for what, text, note in [
+            ("a flow that isn't TOML", b"a = ", b"flow.toml is not TOML"),
+            ("a flow of other bytes", b"\xff\xfe", b"flow.toml is not TOML"),
+            ("an unknown key", b"more = 1\n" + FLOW, b"flow.toml top 0 more 0: unknown"),
+            ("a key twice", FLOW + FLOW, b"flow.toml is not TOML"),
+            ("an empty flow", b"", b"flow.toml top 0 table 0: absent"),
+            ("a flow of 65,537 bytes", FLOW + b"#" * (65537 - len(FLOW)),
+             b"flow.toml has 65537 bytes"),
+            ("a text column", FLOW.replace(b"b int", b"b text"), b"flow.toml is not built yet")]:
+        expect_refusal(what, {"flow.toml": text, "nums.csv": b"a,b\n"}, 3, note)
     longest = FLOW + b"#" * (65536 - len(FLOW))
     expect_load("a flow of 65,536 bytes", {"flow.toml": longest, "nums.csv": b"a,b\n1,2\n"}, [(1, 2)])
     expect_refusal_of_words()

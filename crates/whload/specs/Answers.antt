@@ -6,7 +6,7 @@ use Rattle.whload.specs.declared.reason.Reason.TheVariants as why
 use Rattle.whload.specs.declared.reason.Status.{Status}
 use Rattle.whload.specs.declared.reason.Status.TheVariants as status
 use Rattle.whload.specs.Reasons.{status_of}
-use Rattle.whload.specs.Texts.{report_text, refusal_line}
+use Rattle.whload.specs.Texts.{report_text, refusal_line, IsMade}
 use Rattle.whload.specs.Holds.{Holds}
 use Rattle.whload.specs.Verdict.{Loaded}
 
@@ -21,6 +21,10 @@ pub record IsLoaded (verdict : Result Loaded Reason) (image : List ℕ) (before 
   pub was_verdict : verdict ≡ Ok loaded
   pub held : Holds image loaded.text loaded.columns loaded.rows true
   pub reported : GainsAll before now (report_text 0 (length loaded.rows))
+
+-- the answer is this reason, or want of memory where its line has to be made
+abbrev pub IsTold : Reason → Option Reason → Type 0
+IsTold reason answer = (answer ≡ Some reason) ⊎ (IsMade reason × (answer ≡ Some why.Memory))
 
 -- the notes gained the line of the reason, or a front of it where they failed; nothing where there is no reason
 abbrev pub Notes : Option Reason → Option (List ℕ) → Option (List ℕ) → Type 0 → Type 0

@@ -9,6 +9,8 @@ use Rattle.whload.specs.declared.reason.Status.TheVariants as status
 abbrev pub status_of : Reason → Status
 status_of why.Usage = status.Usage
 status_of why.FlowMissing = status.Flow
+status_of (why.FlowTooLong size) = status.Flow
+status_of (why.Flow fault) = status.Flow
 status_of (why.NotBuilt unbuilt.Flow) = status.Flow
 status_of (why.NotBuilt unbuilt.Source) = status.Source
 status_of why.AlreadyBegun = status.Table
@@ -30,6 +32,8 @@ exit_status_of status.Table = 7
 abbrev pub IsRefusal : Reason → Type 0
 IsRefusal why.Usage = ⊤
 IsRefusal why.FlowMissing = ⊤
+IsRefusal (why.FlowTooLong size) = ⊤
+IsRefusal (why.Flow fault) = ⊤
 IsRefusal (why.NotBuilt what) = ⊤
 IsRefusal why.AlreadyBegun = ⊤
 IsRefusal why.Depot = ⊥
@@ -52,6 +56,8 @@ abbrev pub RestsOn : {X : Type 0} → Type 0 → Type 0 → Type 0 → Result X 
 RestsOn depot disk sink (Ok x) = ⊤
 RestsOn depot disk sink (Err why.Usage) = ⊥
 RestsOn depot disk sink (Err why.FlowMissing) = ⊤
+RestsOn depot disk sink (Err (why.FlowTooLong size)) = ⊤
+RestsOn depot disk sink (Err (why.Flow fault)) = ⊤
 RestsOn depot disk sink (Err (why.NotBuilt what)) = ⊤
 RestsOn depot disk sink (Err why.AlreadyBegun) = ⊤
 RestsOn depot disk sink (Err why.Depot) = depot

@@ -5,6 +5,9 @@ use Rattle.outside.specs.Whole.{Found, missing, too_large, bytes, found_in}
 use Rattle.tuple_schema.specs.declared.schema.Column.{Column}
 use Rattle.tuple_schema.specs.declared.value.Value.{Value}
 use Rattle.tuple_schema.specs.Stops.{◌>>=◌}
+use Rattle.workflow_file.specs.declared.raw.RawFlow.{RawFlow}
+use Rattle.workflow_file.specs.declared.fault.FlowFault.{FlowFault}
+use Rattle.workflow_file.specs.Flows as flows
 use Rattle.workflow_file.specs.Plain.{Plain, plain_flow}
 use Rattle.extractors.specs.Content.{csv_content}
 use Rattle.whload.specs.Words.{is_load}
@@ -25,13 +28,23 @@ command_in words = if is_load words then Ok tt else Err why.Usage
 -- the flow's text, of what is found of `flow.toml`
 abbrev pub text_in : Found → Result (List ℕ) Reason
 text_in missing = Err why.FlowMissing
-text_in (too_large size) = Err (why.NotBuilt unbuilt.Flow)
+text_in (too_large size) = Err (why.FlowTooLong size)
 text_in (bytes text) = Ok text
 
+-- the flow that the text is, or its first fault
+abbrev pub parsed_in : Result RawFlow FlowFault → Result RawFlow Reason
+parsed_in (Ok flow) = Ok flow
+parsed_in (Err fault) = Err (why.Flow fault)
+
 -- a flow that is plain
-abbrev pub flow_in : Option Plain → Result Plain Reason
-flow_in None = Err (why.NotBuilt unbuilt.Flow)
-flow_in (Some flow) = Ok flow
+abbrev pub plain_in : Option Plain → Result Plain Reason
+plain_in None = Err (why.NotBuilt unbuilt.Flow)
+plain_in (Some flow) = Ok flow
+
+abbrev pub flow_in : List ℕ → Result Plain Reason
+flow_in text = do
+  raw ← parsed_in (flows.flow text)
+  plain_in (plain_flow raw)
 
 -- no table is begun: its file is empty
 abbrev pub fresh_in : ℕ → Result (Unit {0}) Reason
@@ -52,7 +65,7 @@ rows_in columns (bytes file) = few_in (csv_content columns file)
 unfoldable pub loaded_in : Files → ℕ → Result Loaded Reason
 loaded_in files size = do
   text ← text_in (found_in 65536 (file_at files (codes "flow.toml")))
-  flow ← flow_in (plain_flow text)
+  flow ← flow_in text
   fresh ← fresh_in size
   rows ← rows_in flow.columns (found_in 268435456 (file_at files flow.file))
   Ok (record { text = text; columns = flow.columns; rows = rows })

@@ -5,9 +5,11 @@ ghost use Rattle.outside.specs.Depot.{Files, file_at};
 ghost use Rattle.outside.specs.Whole.{found_in};
 ghost use Rattle.tuple_schema.specs.Schemas.{Fits};
 ghost use Rattle.tuple_schema.specs.declared.schema.ColumnKind.TheVariants as kind;
-ghost use Rattle.workflow_file.specs.Plain.{plain_flow, plain_of};
+ghost use Rattle.workflow_file.specs.Flows as flows;
+ghost use Rattle.workflow_file.specs.Kept.{KeepsRules};
+ghost use Rattle.workflow_file.specs.Plain.{plain_of};
 ghost use Rattle.whload.specs.Reasons.{Tells, TellsView, RestsOn};
-ghost use Rattle.whload.specs.Verdict.{text_in, flow_in, fresh_in, few_in, rows_in, loaded_in};
+ghost use Rattle.whload.specs.Verdict.{text_in, parsed_in, flow_in, fresh_in, few_in, rows_in, loaded_in};
 ghost use Rattle.extractors.specs.Content.{csv_content};
 ghost use Rattle.whload.specs.Found.{loaded_of};
 
@@ -16,7 +18,7 @@ use extractors::read_content;
 use outside::{Depot, Disk, WholeFile, read_whole};
 use std::alloc::Global;
 use tuple_schema::{Schema, Stop, Tuples};
-use workflow_file::{PlainFlow, read_plain};
+use workflow_file::{PlainFlow, RawFlow, plain_flow, read_flow};
 
 /// The longest `flow.toml`, in bytes.
 const MAX_FLOW: u64 = 65_536;
@@ -52,7 +54,7 @@ pub fn find<D: Depot, K: Disk>(alloc: Global, depot: &mut D, disk: &mut K) -> Re
     ensures fit { IfOk result (λ f. All (λ row. Fits f.columns row) f.rows) }
 {
     let text = read_text(alloc, depot)?;
-    let flow = read_flow(alloc, &text)?;
+    let flow = read_plain(alloc, &text)?;
     expect_fresh(disk)?;
     let rows = read_rows(alloc, depot, &flow)?;
     Ok(Found {
@@ -73,9 +75,7 @@ fn read_text<D: Depot>(alloc: Global, depot: &mut D) -> Result<Vec<u8>, Reason>
 {
     match read_whole(alloc, depot, "flow.toml", MAX_FLOW) {
         Ok(WholeFile::Read(text)) => Ok(text),
-        Ok(WholeFile::TooLarge { .. }) => Err(Reason::NotBuilt {
-            what: Unbuilt::Flow,
-        }),
+        Ok(WholeFile::TooLarge { size }) => Err(Reason::FlowTooLong { size }),
         Ok(WholeFile::Missing) => Err(Reason::FlowMissing),
         Err(Stop::Memory) => Err(Reason::Memory),
         Err(Stop::Fault(_)) => Err(Reason::Depot),
@@ -83,18 +83,33 @@ fn read_text<D: Depot>(alloc: Global, depot: &mut D) -> Result<Vec<u8>, Reason>
 }
 
 // The flow that the text is, where it is plain.
-fn read_flow(alloc: Global, text: &[u8]) -> Result<PlainFlow, Reason>
+fn read_plain(alloc: Global, text: &[u8]) -> Result<PlainFlow, Reason>
     requires { length text.now ≤ 65536 }
-    ensures tells { TellsView plain_of result (flow_in (plain_flow text.now)) }
+    ensures tells { TellsView plain_of result (flow_in text.now) }
     ensures causes { RestsOn ⊥ ⊥ ⊥ result }
     ensures numbers { IfOk result (λ f. All (λ c. c.kind ≡ kind.Int) f.columns) }
 {
-    match read_plain(alloc, text) {
+    let flow = parse(alloc, text)?;
+    match plain_flow(alloc, &flow) {
         Ok(Some(flow)) => Ok(flow),
         Ok(None) => Err(Reason::NotBuilt {
             what: Unbuilt::Flow,
         }),
         Err(_) => Err(Reason::Memory),
+    }
+}
+
+// The flow that the text is.
+fn parse(alloc: Global, text: &[u8]) -> Result<RawFlow, Reason>
+    requires { length text.now ≤ 65536 }
+    ensures tells { Tells result (parsed_in (flows.flow text.now)) }
+    ensures causes { RestsOn ⊥ ⊥ ⊥ result }
+    ensures kept { IfOk result KeepsRules }
+{
+    match read_flow(alloc, text) {
+        Ok(flow) => Ok(flow),
+        Err(Stop::Memory) => Err(Reason::Memory),
+        Err(Stop::Fault(fault)) => Err(Reason::Flow(fault)),
     }
 }
 

@@ -4,6 +4,7 @@ ghost use Rattle.whload.specs.Reasons.{status_of, exit_status_of};
 ghost use Rattle.whload.specs.declared.reason.Reason.TheVariants as why;
 
 use std::alloc::AllocError;
+use workflow_file::FlowFault;
 
 /// What the program can't do yet.
 #[derive(Clone, Copy, Debug, PartialEq, Eq)]
@@ -15,12 +16,17 @@ pub enum Unbuilt {
 }
 
 /// Why a command wasn't done.
-#[derive(Clone, Copy, Debug, PartialEq, Eq)]
+#[derive(Debug, PartialEq, Eq, Drop)]
 pub enum Reason {
     /// The words are no command.
     Usage,
     /// There is no `flow.toml`.
     FlowMissing,
+    /// `flow.toml` has more than 65,536 bytes.
+    FlowTooLong { size: u64 },
+    /// The first fault of `flow.toml`.
+    Flow(FlowFault),
+    /// The flow or the source has something that can't be done yet.
     NotBuilt { what: Unbuilt },
     /// The table's file isn't empty.
     AlreadyBegun,
@@ -47,7 +53,7 @@ pub enum Status {
 }
 
 /// How a command ended, and why, where it wasn't done.
-#[derive(Clone, Copy, Debug, PartialEq, Eq)]
+#[derive(Debug, PartialEq, Eq, Drop)]
 pub struct Ending {
     pub status: Status,
     pub reason: Option<Reason>,
@@ -59,7 +65,7 @@ impl Reason {
     {
         match self {
             Reason::Usage => Status::Usage,
-            Reason::FlowMissing => Status::Flow,
+            Reason::FlowMissing | Reason::FlowTooLong { .. } | Reason::Flow(_) => Status::Flow,
             Reason::NotBuilt {
                 what: Unbuilt::Flow,
             } => Status::Flow,

@@ -7,12 +7,13 @@ ghost use Rattle.tuple_schema.specs.declared.schema.ColumnKind.TheVariants as ki
 ghost use Rattle.whload.specs.Holds.{Holds};
 ghost use Rattle.whload.specs.Words.{is_load};
 ghost use Rattle.whload.specs.Reasons.{IsRefusal, RestsOn, Tells};
-ghost use Rattle.whload.specs.Answers.{ending_status, IsLoaded, Notes, GainsFront, IsDoneOrMemory};
+ghost use Rattle.whload.specs.Texts.{refusal_line};
+ghost use Rattle.whload.specs.Answers.{ending_status, IsLoaded, IsTold, Notes, GainsFront, IsDoneOrMemory};
 ghost use Rattle.whload.specs.Verdict.{loaded_in, verdict};
 
 use crate::find::{Found, find};
 use crate::table::write_table;
-use crate::texts::{line, report};
+use crate::texts::{NO_MEMORY, line_of, report};
 use crate::words::is_load;
 use crate::{Ending, Reason, Status};
 use outside::{Depot, Disk, Sink, put_all};
@@ -65,13 +66,34 @@ pub fn run<D: Depot, K: Disk, S: Sink, N: Sink>(
             status: Status::Done,
             reason: None,
         },
-        Err(reason) => {
-            let _ = put_all(notes, line(&reason).as_bytes());
-            Ending {
-                status: reason.status(),
-                reason: Some(reason),
-            }
-        }
+        Err(reason) => tell(alloc, reason, notes),
+    }
+}
+
+// Tells why the command isn't done. A line that finds no memory gives way to that of want of memory,
+// which takes none.
+fn tell<N: Sink>(alloc: Global, reason: Reason, notes: &mut N) -> Ending
+    ensures told { IsTold reason result.reason }
+    ensures status { result.status ≡ ending_status result.reason }
+    ensures notes { Notes result.reason (N.written notes.old) (N.written notes.new) (Rose (N.faults notes.old) (N.faults notes.new)) }
+{
+    match line_of(alloc, &reason) {
+        Ok(line) => note(reason, line.as_bytes(), notes),
+        Err(_) => note(Reason::Memory, NO_MEMORY.as_bytes(), notes),
+    }
+}
+
+// A note that can't be written changes no answer.
+fn note<N: Sink>(reason: Reason, line: &[u8], notes: &mut N) -> Ending
+    requires { line.now ≡ refusal_line reason }
+    ensures reason { result.reason ≡ Some reason }
+    ensures status { result.status ≡ ending_status result.reason }
+    ensures notes { Notes result.reason (N.written notes.old) (N.written notes.new) (Rose (N.faults notes.old) (N.faults notes.new)) }
+{
+    let _ = put_all(notes, line);
+    Ending {
+        status: reason.status(),
+        reason: Some(reason),
     }
 }
 

@@ -83,26 +83,16 @@ fn blocks(rt: &HostRuntime, on: &Devices, flow: &str) -> Result<String, Fail> {
     Ok(String::from_str(rt.alloc(), blocks.ok_or("no head")?)?)
 }
 
-fn is_done(rt: &impl Abort, ending: Ending, on: &Devices, report: &str) {
-    assert_eq!(rt;
-        ending,
-        Ending {
-            status: Status::Done,
-            reason: None
-        }
-    );
+fn is_done(rt: &impl Abort, ending: &Ending, on: &Devices, report: &str) {
+    assert_eq!(rt; ending.status, Status::Done);
+    assert!(rt; ending.reason.is_none());
     assert_eq!(rt; on.out.bytes(), report.as_bytes());
     assert_eq!(rt; on.notes.bytes(), b"".as_slice());
 }
 
-fn is_refused(rt: &impl Abort, ending: Ending, on: &Devices, reason: Reason, note: &str) {
-    assert_eq!(rt;
-        ending,
-        Ending {
-            status: reason.status(),
-            reason: Some(reason)
-        }
-    );
+fn is_refused(rt: &impl Abort, ending: &Ending, on: &Devices, status: Status, note: &str) {
+    assert_eq!(rt; ending.status, status);
+    assert!(rt; ending.reason.is_some());
     assert_eq!(rt; on.out.bytes(), b"".as_slice());
     assert_eq!(rt; on.notes.bytes(), note.as_bytes());
 }
@@ -111,7 +101,7 @@ fn is_refused(rt: &impl Abort, ending: Ending, on: &Devices, reason: Reason, not
 fn three_rows_make_a_table(rt: HostRuntime) -> Result<(), Fail> {
     let mut on = prepare(&rt, Some(FLOW), Some(THREE), b"")?;
     let ending = load(&rt, &mut on)?;
-    is_done(&rt, ending, &on, "complete\nbefore 0\nadded 3\n");
+    is_done(&rt, &ending, &on, "complete\nbefore 0\nadded 3\n");
     let blocks = blocks(&rt, &on, FLOW)?;
     assert_eq!(rt; blocks.as_str().strip_prefix(THREE_ROWS), Some(END));
     Ok(())
@@ -121,7 +111,7 @@ fn three_rows_make_a_table(rt: HostRuntime) -> Result<(), Fail> {
 fn a_header_alone_makes_an_ended_table(rt: HostRuntime) -> Result<(), Fail> {
     let mut on = prepare(&rt, Some(FLOW), Some("a,b\n"), b"")?;
     let ending = load(&rt, &mut on)?;
-    is_done(&rt, ending, &on, "complete\nbefore 0\nadded 0\n");
+    is_done(&rt, &ending, &on, "complete\nbefore 0\nadded 0\n");
     assert_eq!(rt; blocks(&rt, &on, FLOW)?.as_str(), END);
     Ok(())
 }
@@ -134,43 +124,106 @@ fn a_second_load_is_refused(rt: HostRuntime) -> Result<(), Fail> {
     on.out = MemorySink::new(rt.alloc());
     let ending = load(&rt, &mut on)?;
     let note = "whload: table.whl is there already\n";
-    is_refused(&rt, ending, &on, Reason::AlreadyBegun, note);
+    is_refused(&rt, &ending, &on, Status::Table, note);
     assert_eq!(rt; ending.status.code(), 7);
     assert_eq!(rt; on.disk.bytes(), before.as_slice());
     Ok(())
 }
 
 #[test]
-fn each_refusal_leaves_no_table(rt: HostRuntime) -> Result<(), Fail> {
-    let no_source = Reason::NotBuilt {
-        what: Unbuilt::Source,
-    };
-    let no_flow = Reason::NotBuilt {
-        what: Unbuilt::Flow,
-    };
-    let source = "whload: source file is not built yet\n";
-    let flow = "whload: flow.toml is not built yet\n";
-    let missing = "whload: flow.toml is missing\n";
-    for (text, nums, reason, note) in [
-        (
-            Some(FLOW),
-            Some("a,b\n1,10\n2,x\n3,30\n"),
-            no_source,
-            source,
-        ),
-        (Some(FLOW), Some("a,b\n1,10\n2\n"), no_source, source),
-        (Some(FLOW), Some("a,c\n1,10\n"), no_source, source),
-        (Some(FLOW), Some(""), no_source, source),
-        (Some(FLOW), None, no_source, source),
-        (Some("a = "), Some(THREE), no_flow, flow),
-        (Some(""), Some(THREE), no_flow, flow),
-        (None, Some(THREE), Reason::FlowMissing, missing),
+fn a_faulty_source_leaves_no_table(rt: HostRuntime) -> Result<(), Fail> {
+    for nums in [
+        Some("a,b\n1,10\n2,x\n3,30\n"),
+        Some("a,b\n1,10\n2\n"),
+        Some("a,c\n1,10\n"),
+        Some(""),
+        None,
     ] {
-        let mut on = prepare(&rt, text, nums, b"")?;
+        let mut on = prepare(&rt, Some(FLOW), nums, b"")?;
         let ending = load(&rt, &mut on)?;
-        is_refused(&rt, ending, &on, reason, note);
+        let note = "whload: source file is not built yet\n";
+        is_refused(&rt, &ending, &on, Status::Source, note);
         assert_eq!(rt; on.disk.bytes(), b"".as_slice());
     }
+    Ok(())
+}
+
+// A flow with one source of these columns, and more at its end.
+fn flow_with(rt: &HostRuntime, columns: &str, more: &str) -> Result<String, Fail> {
+    let mut text = String::from_str(rt.alloc(), "table = { input = \"nums\" }\n")?;
+    write!(
+        text,
+        "source = [ {{ name = \"nums\", file = \"nums.csv\", columns = [{columns}], promise = \"seq\" }} ]\n{more}"
+    )?;
+    Ok(text)
+}
+
+#[test]
+fn the_first_fault_of_a_flow_is_told(rt: HostRuntime) -> Result<(), Fail> {
+    let columns = "\"a int\", \"b int\"";
+    let sort = "node = [ { name = \"up\", kind = \"sort\", input = \"nums\", by = [\"a\"] } ]\n";
+    for (columns, more, note) in [
+        (
+            "\"a int\", \"B int\"",
+            "",
+            "flow.toml source 1 columns 2: bad name",
+        ),
+        (
+            "\"a int\", \"b whole\"",
+            "",
+            "flow.toml source 1 columns 2: bad word",
+        ),
+        ("", "", "flow.toml source 1 columns 0: empty"),
+        (columns, "more = 1\n", "flow.toml top 0 more 0: unknown"),
+        (columns, "node = 7\n", "flow.toml top 0 node 0: not a list"),
+        (
+            columns,
+            "node = [ 7 ]\n",
+            "flow.toml top 0 node 1: not a table",
+        ),
+        (
+            columns,
+            "node = [ { name = \"up\" } ]\n",
+            "flow.toml node 1 kind 0: absent",
+        ),
+        (columns, "table = 7\n", "flow.toml is not TOML"),
+        (columns, sort, "flow.toml is not built yet"),
+        ("\"a text\"", "", "flow.toml is not built yet"),
+    ] {
+        let flow = flow_with(&rt, columns, more)?;
+        let mut on = prepare(&rt, Some(flow.as_str()), Some(THREE), b"")?;
+        let ending = load(&rt, &mut on)?;
+        let line = format!(in rt.alloc(); "whload: {note}\n")?;
+        is_refused(&rt, &ending, &on, Status::Flow, line.as_str());
+        assert_eq!(rt; on.disk.bytes(), b"".as_slice());
+    }
+    Ok(())
+}
+
+#[test]
+fn a_missing_or_long_flow_is_refused(rt: HostRuntime) -> Result<(), Fail> {
+    let mut on = prepare(&rt, None, Some(THREE), b"")?;
+    let ending = load(&rt, &mut on)?;
+    is_refused(
+        &rt,
+        &ending,
+        &on,
+        Status::Flow,
+        "whload: flow.toml is missing\n",
+    );
+    let mut flow = String::from_str(rt.alloc(), FLOW)?;
+    for _ in flow.len()..65_536 {
+        flow.push('#')?;
+    }
+    let mut on = prepare(&rt, Some(flow.as_str()), Some(THREE), b"")?;
+    let ending = load(&rt, &mut on)?;
+    is_done(&rt, &ending, &on, "complete\nbefore 0\nadded 3\n");
+    flow.push('#')?;
+    let mut on = prepare(&rt, Some(flow.as_str()), Some(THREE), b"")?;
+    let ending = load(&rt, &mut on)?;
+    let note = "whload: flow.toml has 65537 bytes\n";
+    is_refused(&rt, &ending, &on, Status::Flow, note);
+    assert_eq!(rt; on.disk.bytes(), b"".as_slice());
     Ok(())
 }
 
@@ -188,7 +241,7 @@ fn other_words_are_no_command(rt: HostRuntime) -> Result<(), Fail> {
     ] {
         let mut on = prepare(&rt, Some(FLOW), Some(THREE), b"")?;
         let ending = command(&rt, &mut on, words)?;
-        is_refused(&rt, ending, &on, Reason::Usage, note);
+        is_refused(&rt, &ending, &on, Status::Usage, note);
         assert_eq!(rt; ending.status.code(), 2);
         assert_eq!(rt; on.depot.served(), 0);
     }
@@ -205,14 +258,14 @@ fn a_device_that_fails_is_named(rt: HostRuntime) -> Result<(), Fail> {
         if call < 5 {
             is_refused(
                 &rt,
-                ending,
+                &ending,
                 &on,
-                Reason::Depot,
+                Status::Device,
                 "whload: a source file failed\n",
             );
             assert_eq!(rt; on.disk.bytes(), b"".as_slice());
         } else {
-            is_done(&rt, ending, &on, "complete\nbefore 0\nadded 3\n");
+            is_done(&rt, &ending, &on, "complete\nbefore 0\nadded 3\n");
         }
     }
     // The size twice, six calls to make the table, four for each of two blocks.
@@ -223,14 +276,14 @@ fn a_device_that_fails_is_named(rt: HostRuntime) -> Result<(), Fail> {
         if call < 17 {
             is_refused(
                 &rt,
-                ending,
+                &ending,
                 &on,
-                Reason::Disk,
+                Status::Device,
                 "whload: the table file failed\n",
             );
             assert_eq!(rt; ending.status.code(), 5);
         } else {
-            is_done(&rt, ending, &on, "complete\nbefore 0\nadded 3\n");
+            is_done(&rt, &ending, &on, "complete\nbefore 0\nadded 3\n");
         }
     }
     Ok(())
@@ -243,9 +296,9 @@ fn a_failed_output_leaves_the_table_ended(rt: HostRuntime) -> Result<(), Fail> {
     let ending = load(&rt, &mut on)?;
     is_refused(
         &rt,
-        ending,
+        &ending,
         &on,
-        Reason::Sink,
+        Status::Device,
         "whload: the output failed\n",
     );
     assert_eq!(rt;
@@ -260,7 +313,7 @@ fn a_failed_note_changes_no_status(rt: HostRuntime) -> Result<(), Fail> {
     let mut on = prepare(&rt, None, None, b"")?;
     on.notes.fail_at(1)?;
     let ending = load(&rt, &mut on)?;
-    is_refused(&rt, ending, &on, Reason::FlowMissing, "");
+    is_refused(&rt, &ending, &on, Status::Flow, "");
     assert_eq!(rt; ending.status.code(), 3);
     Ok(())
 }
@@ -274,20 +327,18 @@ fn ample_memory_is_never_memory(rt: HostRuntime) -> Result<(), Fail> {
     }
     let mut on = prepare(&rt, Some(FLOW), Some(nums.as_str()), b"")?;
     let ending = load(&rt, &mut on)?;
-    is_done(&rt, ending, &on, "complete\nbefore 0\nadded 1000\n");
+    is_done(&rt, &ending, &on, "complete\nbefore 0\nadded 1000\n");
     assert_eq!(rt; on.disk.starved(), 0);
     nums.push_str("7,7\n")?;
     let mut on = prepare(&rt, Some(FLOW), Some(nums.as_str()), b"")?;
     let ending = load(&rt, &mut on)?;
-    let reason = Reason::NotBuilt {
-        what: Unbuilt::Source,
-    };
-    is_refused(
-        &rt,
-        ending,
-        &on,
-        reason,
-        "whload: source file is not built yet\n",
+    let note = "whload: source file is not built yet\n";
+    is_refused(&rt, &ending, &on, Status::Source, note);
+    assert_eq!(rt;
+        ending.reason,
+        Some(Reason::NotBuilt {
+            what: Unbuilt::Source
+        })
     );
     Ok(())
 }

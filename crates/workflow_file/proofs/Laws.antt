@@ -57,8 +57,15 @@ source_keeps n ms =
     step _ _ (texts_if_keep name_lack part (codes "grouped")) (λ grouped grouped_keep.
     step _ _ (no_other_keeps part source_keys) (λ nothing none.
     gives (record {
-      name = name_keeps; file = file_keeps; format = format_keeps; header = header_keeps;
-      columns = columns_keep; promise = promise_keeps; key = key_keeps; grouped = grouped_keep }))))))))))
+      name = name_keeps;
+      file = file_keeps;
+      format = format_keeps;
+      header = header_keeps;
+      columns = columns_keep;
+      promise = promise_keeps;
+      key = key_keeps;
+      grouped = grouped_keep;
+    }))))))))))
 
 pub record KeepInputs (kind : List ℕ) (i : Inputs) : Type 0 where
   pub input : HasKey kind (codes "input") (KeepsRule name_lack) i.input
@@ -117,10 +124,22 @@ node_keeps n ms =
     step _ _ (texts_if_keep (declaration_lack i) part (codes "declare")) (λ declare declare_keeps.
     step _ _ (no_other_keeps part (keys_of kind)) (λ nothing none.
     gives (record {
-      name = name_keeps; kind = kind_keeps;
-      input = inputs.input; inputs = inputs.inputs; left = inputs.left; right = inputs.right;
-      on = lists.on; test = words.test; columns = lists.columns; set = lists.set; by = lists.by; make = lists.make;
-      order = words.order; column = words.column; declare = declare_keeps }))))))))
+      name = name_keeps;
+      kind = kind_keeps;
+      input = inputs.input;
+      inputs = inputs.inputs;
+      left = inputs.left;
+      right = inputs.right;
+      on = lists.on;
+      test = words.test;
+      columns = lists.columns;
+      set = lists.set;
+      by = lists.by;
+      make = lists.make;
+      order = words.order;
+      column = words.column;
+      declare = declare_keeps;
+    }))))))))
 
 flow_keeps : (ms : Members) → Keeps KeepsRules (flow_in ms)
 unfolding flow_in
@@ -131,8 +150,12 @@ flow_keeps ms =
     step _ _ (each_keeps KeepsNode raw_node_in node_keeps 1 sections.nodes) (λ nodes all_nodes.
     gives (record {
       table = table_is;
-      some_sources = rw all_sources.0 few.sources.0; few_sources = rw all_sources.0 few.sources.1; sources = all_sources.1;
-      few_nodes = rw all_nodes.0 few.nodes.1; nodes = all_nodes.1 })))))
+      some_sources = rw all_sources.0 few.sources.0;
+      few_sources = rw all_sources.0 few.sources.1;
+      sources = all_sources.1;
+      few_nodes = rw all_nodes.0 few.nodes.1;
+      nodes = all_nodes.1;
+    })))))
 
 not_toml : (f : FlowFault) → IsShape f → f ≡ fault.NotToml → ⊥
 not_toml fault.NotToml shape e = shape

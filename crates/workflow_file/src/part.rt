@@ -241,7 +241,13 @@ impl<'a> Part<'a> {
     }
 
     /// The text at the key, if the key is among these, and nothing otherwise.
-    pub fn text_among(&self, alloc: Global, keys: &[&str], key: &str, rule: &Rule) -> Result<Option<Text>, Stop<FlowFault>>
+    pub fn text_among(
+        &self,
+        alloc: Global,
+        keys: &[&str],
+        key: &str,
+        rule: &Rule,
+    ) -> Result<Option<Text>, Stop<FlowFault>>
         requires { length key.now ≤ 4096 }
         ensures { Gives result (text_among (part_of self.now) key.now (map (λ k. k.now) keys.now) (lack_by rule.now)) }
     {

@@ -14,8 +14,7 @@ fn answer(alloc: Global, text: &[u8]) -> Result<String, Fail> {
         Ok(_) => Ok(String::from_str(alloc, "ok")?),
         Err(Stop::Memory) => Err(Fail::new("no memory")),
         Err(Stop::Fault(FlowFault::NotToml)) => Ok(String::from_str(alloc, "not toml")?),
-        Err(Stop::Fault(FlowFault::Shape { place, what })) => Ok(format!(
-            in alloc;
+        Err(Stop::Fault(FlowFault::Shape { place, what })) => Ok(format!(in alloc;
             "{} {} {} {}: {}",
             place.section.text(),
             place.index,
@@ -35,7 +34,8 @@ fn repeated(alloc: Global, piece: &str, times: u32) -> Result<String, Fail> {
     Ok(text)
 }
 
-const GOOD: &str = "table={input='a'}\nsource=[{name='a',file='a.csv',columns=['n int'],promise='seq'}]\n";
+const GOOD: &str =
+    "table={input='a'}\nsource=[{name='a',file='a.csv',columns=['n int'],promise='seq'}]\n";
 
 const TOPS: [(&str, &str); 30] = [
     ("", "top 0 table 0: absent"),
@@ -51,23 +51,53 @@ const TOPS: [(&str, &str); 30] = [
     ("[table]\n[source]\nname='a'", "top 0 source 0: not a list"),
     ("table={}\nsource=[]", "top 0 source 0: empty"),
     ("table={}\nsource=[1]", "top 0 source 1: not a table"),
-    ("table={}\nsource=[{},{},'x',1]", "top 0 source 3: not a table"),
+    (
+        "table={}\nsource=[{},{},'x',1]",
+        "top 0 source 3: not a table",
+    ),
     ("table={}\nsource=[{}]\nnode=1", "top 0 node 0: not a list"),
     ("table={}\nsource=[{}]\nnode={}", "top 0 node 0: not a list"),
-    ("table={}\nsource=[{}]\nnode=[{},[]]", "top 0 node 2: not a table"),
-    ("table={}\nsource=[{}]\nzeta=1\neta=2", "top 0 eta 0: unknown"),
+    (
+        "table={}\nsource=[{}]\nnode=[{},[]]",
+        "top 0 node 2: not a table",
+    ),
+    (
+        "table={}\nsource=[{}]\nzeta=1\neta=2",
+        "top 0 eta 0: unknown",
+    ),
     ("table={}\nsource=[{}]\nTable=1", "top 0 Table 0: unknown"),
     ("table={}\nsource=[{}]\n''=1", "top 0  0: unknown"),
-    ("table={}\nsource=[{}]\ntables.a=1", "top 0 tables 0: unknown"),
+    (
+        "table={}\nsource=[{}]\ntables.a=1",
+        "top 0 tables 0: unknown",
+    ),
     ("table={}\nsource=[{}]\nnode=[]", "table 0 input 0: absent"),
-    ("table={}\nsource=[{}]\nnode=[{}]", "table 0 input 0: absent"),
+    (
+        "table={}\nsource=[{}]\nnode=[{}]",
+        "table 0 input 0: absent",
+    ),
     ("table={input=1}\nsource=[{}]", "table 0 input 0: not text"),
     ("table={input=''}\nsource=[{}]", "table 0 input 0: empty"),
-    ("table={input='a b'}\nsource=[{}]", "table 0 input 0: bad name"),
-    ("table={input='a',key='a'}\nsource=[{}]", "table 0 key 0: not a list"),
-    ("table={input='a',key=['a','none']}\nsource=[{}]", "table 0 key 2: bad name"),
-    ("table={input='a',where='n'}\nsource=[{}]", "table 0 where 0: unknown"),
-    ("table={input='a',key=['n']}\nsource=[{}]\nnode=[{}]", "source 1 name 0: absent"),
+    (
+        "table={input='a b'}\nsource=[{}]",
+        "table 0 input 0: bad name",
+    ),
+    (
+        "table={input='a',key='a'}\nsource=[{}]",
+        "table 0 key 0: not a list",
+    ),
+    (
+        "table={input='a',key=['a','none']}\nsource=[{}]",
+        "table 0 key 2: bad name",
+    ),
+    (
+        "table={input='a',where='n'}\nsource=[{}]",
+        "table 0 where 0: unknown",
+    ),
+    (
+        "table={input='a',key=['n']}\nsource=[{}]\nnode=[{}]",
+        "source 1 name 0: absent",
+    ),
 ];
 
 #[test]
@@ -114,11 +144,25 @@ fn other_bytes_are_no_document(rt: HostRuntime) -> Result<(), Fail> {
 #[test]
 fn long_and_deep_texts_are_read(rt: HostRuntime) -> Result<(), Fail> {
     let alloc = rt.alloc();
-    let deep = format!(in alloc; "a={}{}", repeated(alloc, "[", 60)?, repeated(alloc, "]", 60)?)?;
-    assert_eq!(rt; answer(alloc, deep.as_bytes())?.as_str(), "top 0 table 0: absent");
-    let deeper = format!(in alloc; "a={}{}", repeated(alloc, "[", 9000)?, repeated(alloc, "]", 9000)?)?;
+    let deep = format!(in alloc;
+        "a={}{}",
+        repeated(alloc, "[", 60)?,
+        repeated(alloc, "]", 60)?
+    )?;
+    assert_eq!(rt;
+        answer(alloc, deep.as_bytes())?.as_str(),
+        "top 0 table 0: absent"
+    );
+    let deeper = format!(in alloc;
+        "a={}{}",
+        repeated(alloc, "[", 9000)?,
+        repeated(alloc, "]", 9000)?
+    )?;
     assert_eq!(rt; answer(alloc, deeper.as_bytes())?.as_str(), "not toml");
-    let full = format!(in alloc; "{GOOD}#{}", repeated(alloc, " ", 65535 - GOOD.len() as u32)?)?;
+    let full = format!(in alloc;
+        "{GOOD}#{}",
+        repeated(alloc, " ", 65535 - GOOD.len() as u32)?
+    )?;
     assert_eq!(rt; full.len(), 65536);
     assert_eq!(rt; answer(alloc, full.as_bytes())?.as_str(), "ok");
     let open = repeated(alloc, "[", 65536)?;
@@ -128,7 +172,10 @@ fn long_and_deep_texts_are_read(rt: HostRuntime) -> Result<(), Fail> {
     let want = format!(in alloc; "top 0 {} 0: unknown", key)?;
     assert_eq!(rt; answer(alloc, long.as_bytes())?.as_str(), want.as_str());
     let longer = format!(in alloc; "{GOOD}{}k=1", key)?;
-    assert_eq!(rt; answer(alloc, longer.as_bytes())?.as_str(), "top 0  0: unknown");
+    assert_eq!(rt;
+        answer(alloc, longer.as_bytes())?.as_str(),
+        "top 0  0: unknown"
+    );
     Ok(())
 }
 
