@@ -2,6 +2,7 @@ pub mod Counts
 pub mod Countdown
 pub mod Depot
 pub mod Disk
+pub mod Images
 pub mod Sink
 pub mod Whole
 pub mod MemoryDepot
