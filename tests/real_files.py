@@ -158,15 +158,17 @@ def devices():
     expect("a file that can't be opened", run("load", path),
            (5, b"", b"whload: a source file failed\n"))
     expect("a file that can't be opened: no table", table_of(path), None)
-    path = folder({"flow.toml": FLOW})
-    os.mkdir(os.path.join(path, "nums.csv"))
-    status, out, _ = run("load", path)
-    expect("a folder in a file's place", (status in (4, 5), out, table_of(path)), (True, b"", None))
-
-    path = folder(plain)
-    os.mkdir(os.path.join(path, "table.whl"))
-    status, out, _ = run("load", path)
-    expect("a folder in the table's place", (status in (5, 7), out), (True, b""))
+    # What isn't a plain file is refused and not opened: a pipe would wait for its writer.
+    for what, make in [("a folder", os.mkdir), ("a pipe", os.mkfifo)]:
+        path = folder({"flow.toml": FLOW})
+        make(os.path.join(path, "nums.csv"))
+        expect(f"{what} in the source's place", run("load", path),
+               (5, b"", b"whload: a source file failed\n"))
+        expect(f"{what} in the source's place: no table", table_of(path), None)
+        path = folder(plain)
+        make(os.path.join(path, "table.whl"))
+        expect(f"{what} in the table's place", run("load", path),
+               (5, b"", b"whload: the table file failed\n"))
 
     path = folder(plain)
     expect("a full output", shell('"$W" load "$D" > /dev/full', path),

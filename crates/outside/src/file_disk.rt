@@ -2,6 +2,7 @@
 ghost use Rattle.std.specs.Prelude.{◌≡◌, ◌≤◌, [], false, IfOk};
 ghost use Rattle.outside.specs.Counts.{counted};
 
+use crate::plain_file::open_to_read;
 use crate::{Disk, Failed};
 use std::alloc::Global;
 use std::fs::{OpenFile, OpenOptions};
@@ -61,14 +62,8 @@ impl<'a, R: Files> FileDisk<'a, R> {
         if self.file.is_some() {
             return Ok(());
         }
-        match OpenOptions::new().read(true).open(self.rt, &self.path) {
-            Ok(file) => {
-                self.file = Some(file);
-                Ok(())
-            }
-            Err(error) if error.kind() == ErrorKind::NotFound => Ok(()),
-            Err(error) => Err(error),
-        }
+        self.file = open_to_read(self.rt, self.path.as_path())?;
+        Ok(())
     }
 
     // Opens the file for writing too, and makes it where there is none.

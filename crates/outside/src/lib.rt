@@ -21,6 +21,7 @@ mod history;
 mod memory_depot;
 mod memory_disk;
 mod memory_sink;
+mod plain_file;
 mod sink;
 mod std_sink;
 mod whole;

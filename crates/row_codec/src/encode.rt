@@ -15,12 +15,14 @@ pub fn encode_row<F: Fields>(row: &F, schema: &Schema, into: &mut Vec<u8>) -> Re
     ensures err { OnErr result (into.new.items ≡ into.old.items) }
 
     // Where there is room already, it answers Ok. The room never shrinks.
-    ensures room { OnErr result (vec_capacity into.old < vec_len into.old + length (row_bytes (F.tuple row.now))) }
+    ensures room { OnErr result
+        (vec_capacity into.old < vec_len into.old + length (row_bytes (F.tuple row.now))) }
     ensures capacity { vec_capacity into.old ≤ vec_capacity into.new }
 
     // A row has at most 64 values of at most 4,099 bytes, and a number has 9 at most.
     ensures short { OnOk result (length (row_bytes (F.tuple row.now)) ≤ 262336) }
-    ensures numbers { AreNumbers schema.now → length (row_bytes (F.tuple row.now)) ≤ 9 * length schema.now }
+    ensures numbers { AreNumbers schema.now →
+        length (row_bytes (F.tuple row.now)) ≤ 9 * length schema.now }
 {
     let before = into.len();
     match encode_fields(row, schema.columns().len(), into) {
@@ -37,7 +39,8 @@ fn encode_fields<F: Fields>(row: &F, count: usize, into: &mut Vec<u8>) -> Result
     requires { count ≡ length (F.tuple row.now) }
     ensures ok { OnOk result (into.new.items ≡ into.old.items ++ row_bytes (F.tuple row.now)) }
     ensures err { OnErr result (take (vec_len into.old) into.new.items ≡ into.old.items) }
-    ensures room { OnErr result (vec_capacity into.old < vec_len into.old + length (row_bytes (F.tuple row.now))) }
+    ensures room { OnErr result
+        (vec_capacity into.old < vec_len into.old + length (row_bytes (F.tuple row.now))) }
     ensures capacity { vec_capacity into.old ≤ vec_capacity into.new }
     ensures short { OnOk result (length (row_bytes (F.tuple row.now)) ≤ 4099 * count) }
 {
@@ -52,7 +55,8 @@ fn encode_field(field: FieldRef<'_>, into: &mut Vec<u8>) -> Result<(), AllocErro
     requires { IsShort (lent field) }
     ensures ok { OnOk result (into.new.items ≡ into.old.items ++ value_bytes (lent field.entry)) }
     ensures err { OnErr result (take (vec_len into.old) into.new.items ≡ into.old.items) }
-    ensures room { OnErr result (vec_capacity into.old < vec_len into.old + length (value_bytes (lent field.entry))) }
+    ensures room { OnErr result
+        (vec_capacity into.old < vec_len into.old + length (value_bytes (lent field.entry))) }
     ensures capacity { vec_capacity into.old ≤ vec_capacity into.new }
     ensures short { length (value_bytes (lent field.entry)) ≤ 4099 }
 {

@@ -1,6 +1,6 @@
 //! A row's two forms: the texts of its fields in a CSV file, and its bytes in a table file.
 //!
-//! Stands on `tuple_schema`. `extractors` reads fields by it, `commit_disk` encodes rows by it. Read
+//! Stands on `tuple_schema`. `extractors` reads fields by it, `whload` encodes rows by it. Read
 //! `specs/Fields.antt` and `specs/Rows.antt`: what the text of a field stands for, and which bytes a
 //! row has.
 //!

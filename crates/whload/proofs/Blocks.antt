@@ -55,4 +55,5 @@ rows_held image text columns (row ∷ rows) fit holds =
       blocks = (row ∷ rows) ∷ [];
       image_holds = rw (blocks_with-some (stored_of (row ∷ rows)) some) at holds;
       are_rows = sym (append-nil (row ∷ rows));
-      fit = fit }
+      fit = fit;
+    }

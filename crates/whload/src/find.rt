@@ -36,11 +36,7 @@ pub struct Found {
 }
 
 /// Looks at what is to be loaded. Nothing is written.
-pub fn find<D: Depot, K: Disk>(
-    alloc: Global,
-    depot: &mut D,
-    disk: &mut K,
-) -> Result<Found, Reason>
+pub fn find<D: Depot, K: Disk>(alloc: Global, depot: &mut D, disk: &mut K) -> Result<Found, Reason>
     ensures tells { (files : Files) → D.files depot.old ≡ Some files → IsTrue (K.honest disk.old)
         → TellsView loaded_of result (loaded_in files (length (K.seen disk.old))) }
     ensures causes { RestsOn (Rose (D.faults depot.old) (D.faults depot.new)) (Rose (K.faults disk.old) (K.faults disk.new)) ⊥ result }
@@ -120,11 +116,7 @@ fn expect_fresh<K: Disk>(disk: &mut K) -> Result<(), Reason>
 }
 
 // The rows of the flow's source.
-fn read_rows<D: Depot>(
-    alloc: Global,
-    depot: &mut D,
-    flow: &PlainFlow,
-) -> Result<Tuples, Reason>
+fn read_rows<D: Depot>(alloc: Global, depot: &mut D, flow: &PlainFlow) -> Result<Tuples, Reason>
     requires { All (λ c. c.kind ≡ kind.Int) flow.now.columns }
     ensures tells { (files : Files) → D.files depot.old ≡ Some files
         → Tells result (rows_in flow.now.columns (found_in 268435456 (file_at files flow.now.file))) }

@@ -14,15 +14,14 @@ mod find;
 mod reason;
 mod run;
 mod table;
-mod texts;
 #[cfg(test)]
 mod tests;
+mod texts;
 mod words;
 
+use outside::{FileDisk, FolderDepot, StdSink};
 pub use reason::{Ending, Reason, Status, Unbuilt};
 pub use run::run;
-
-use outside::{FileDisk, FolderDepot, StdSink};
 use std::process::ExitCode;
 use std::rt::{Env, Files};
 use std::{env, fs, io};

@@ -41,11 +41,7 @@ pub fn write_table<K: Disk>(
 }
 
 // Commits the block, where it has rows.
-fn commit_rows<K: Disk>(
-    journal: &mut Journal,
-    disk: &mut K,
-    block: &Block,
-) -> Result<(), Failed>
+fn commit_rows<K: Disk>(journal: &mut Journal, disk: &mut K, block: &Block) -> Result<(), Failed>
     requires sound { IsTrue journal.old.sound }
     requires unended { journal.old.ended ≡ false }
     requires fits { journal.old.gate + 11 + length block.now.bytes ≤ 2 ^ 48 }

@@ -2,17 +2,21 @@
 use crate::{Ending, Reason, Status, Unbuilt, run};
 use outside::{MemoryDepot, MemoryDisk, MemorySink};
 use std::fmt::Write;
+use std::process::Abort;
 use std::test::Fail;
 
-const FLOW: &str = "table = { input = \"nums\" }\nsource = [ { name = \"nums\", file = \"nums.csv\", columns = [\"a int\", \"b int\"], promise = \"seq\" } ]\n";
+const FLOW: &str =
+    "table = { input = \"nums\" }\nsource = [ { name = \"nums\", file = \"nums.csv\", columns = [\"a int\", \"b int\"], promise = \"seq\" } ]\n";
 
 const THREE: &str = "a,b\n1,10\n2,20\n3,30\n";
 
 // The block of those rows, and the end block with a closed gate behind it.
-const THREE_ROWS: &str = "0100000000030000003601000000000000000101000000000000000a01000000000000000201000000000000001401000000000000000301000000000000001e";
+const THREE_ROWS: &str =
+    "0100000000030000003601000000000000000101000000000000000a01000000000000000201000000000000001401000000000000000301000000000000001e";
 
 const END: &str = "0101000000000000000000";
 
+#[derive(Drop)]
 struct Devices {
     depot: MemoryDepot,
     disk: MemoryDisk,
@@ -21,7 +25,7 @@ struct Devices {
 }
 
 // A folder with these files, where they are given, and a table file of these bytes.
-fn devices(
+fn prepare(
     rt: &HostRuntime,
     flow: Option<&str>,
     nums: Option<&str>,
@@ -79,21 +83,33 @@ fn blocks(rt: &HostRuntime, on: &Devices, flow: &str) -> Result<String, Fail> {
     Ok(String::from_str(rt.alloc(), blocks.ok_or("no head")?)?)
 }
 
-fn is_done(rt: &HostRuntime, ending: Ending, on: &Devices, report: &str) {
-    assert_eq!(rt; ending, Ending { status: Status::Done, reason: None });
+fn is_done(rt: &impl Abort, ending: Ending, on: &Devices, report: &str) {
+    assert_eq!(rt;
+        ending,
+        Ending {
+            status: Status::Done,
+            reason: None
+        }
+    );
     assert_eq!(rt; on.out.bytes(), report.as_bytes());
     assert_eq!(rt; on.notes.bytes(), b"".as_slice());
 }
 
-fn is_refused(rt: &HostRuntime, ending: Ending, on: &Devices, reason: Reason, note: &str) {
-    assert_eq!(rt; ending, Ending { status: reason.status(), reason: Some(reason) });
+fn is_refused(rt: &impl Abort, ending: Ending, on: &Devices, reason: Reason, note: &str) {
+    assert_eq!(rt;
+        ending,
+        Ending {
+            status: reason.status(),
+            reason: Some(reason)
+        }
+    );
     assert_eq!(rt; on.out.bytes(), b"".as_slice());
     assert_eq!(rt; on.notes.bytes(), note.as_bytes());
 }
 
 #[test]
 fn three_rows_make_a_table(rt: HostRuntime) -> Result<(), Fail> {
-    let mut on = devices(&rt, Some(FLOW), Some(THREE), b"")?;
+    let mut on = prepare(&rt, Some(FLOW), Some(THREE), b"")?;
     let ending = load(&rt, &mut on)?;
     is_done(&rt, ending, &on, "complete\nbefore 0\nadded 3\n");
     let blocks = blocks(&rt, &on, FLOW)?;
@@ -103,7 +119,7 @@ fn three_rows_make_a_table(rt: HostRuntime) -> Result<(), Fail> {
 
 #[test]
 fn a_header_alone_makes_an_ended_table(rt: HostRuntime) -> Result<(), Fail> {
-    let mut on = devices(&rt, Some(FLOW), Some("a,b\n"), b"")?;
+    let mut on = prepare(&rt, Some(FLOW), Some("a,b\n"), b"")?;
     let ending = load(&rt, &mut on)?;
     is_done(&rt, ending, &on, "complete\nbefore 0\nadded 0\n");
     assert_eq!(rt; blocks(&rt, &on, FLOW)?.as_str(), END);
@@ -112,7 +128,7 @@ fn a_header_alone_makes_an_ended_table(rt: HostRuntime) -> Result<(), Fail> {
 
 #[test]
 fn a_second_load_is_refused(rt: HostRuntime) -> Result<(), Fail> {
-    let mut on = devices(&rt, Some(FLOW), Some(THREE), b"")?;
+    let mut on = prepare(&rt, Some(FLOW), Some(THREE), b"")?;
     load(&rt, &mut on)?;
     let before = on.disk.bytes().to_vec(rt.alloc())?;
     on.out = MemorySink::new(rt.alloc());
@@ -126,13 +142,22 @@ fn a_second_load_is_refused(rt: HostRuntime) -> Result<(), Fail> {
 
 #[test]
 fn each_refusal_leaves_no_table(rt: HostRuntime) -> Result<(), Fail> {
-    let no_source = Reason::NotBuilt { what: Unbuilt::Source };
-    let no_flow = Reason::NotBuilt { what: Unbuilt::Flow };
+    let no_source = Reason::NotBuilt {
+        what: Unbuilt::Source,
+    };
+    let no_flow = Reason::NotBuilt {
+        what: Unbuilt::Flow,
+    };
     let source = "whload: source file is not built yet\n";
     let flow = "whload: flow.toml is not built yet\n";
     let missing = "whload: flow.toml is missing\n";
     for (text, nums, reason, note) in [
-        (Some(FLOW), Some("a,b\n1,10\n2,x\n3,30\n"), no_source, source),
+        (
+            Some(FLOW),
+            Some("a,b\n1,10\n2,x\n3,30\n"),
+            no_source,
+            source,
+        ),
         (Some(FLOW), Some("a,b\n1,10\n2\n"), no_source, source),
         (Some(FLOW), Some("a,c\n1,10\n"), no_source, source),
         (Some(FLOW), Some(""), no_source, source),
@@ -141,7 +166,7 @@ fn each_refusal_leaves_no_table(rt: HostRuntime) -> Result<(), Fail> {
         (Some(""), Some(THREE), no_flow, flow),
         (None, Some(THREE), Reason::FlowMissing, missing),
     ] {
-        let mut on = devices(&rt, text, nums, b"")?;
+        let mut on = prepare(&rt, text, nums, b"")?;
         let ending = load(&rt, &mut on)?;
         is_refused(&rt, ending, &on, reason, note);
         assert_eq!(rt; on.disk.bytes(), b"".as_slice());
@@ -151,10 +176,17 @@ fn each_refusal_leaves_no_table(rt: HostRuntime) -> Result<(), Fail> {
 
 #[test]
 fn other_words_are_no_command(rt: HostRuntime) -> Result<(), Fail> {
-    let note = "whload: usage: whload load DIR [--batch N], explain DIR, check DIR, dump DIR, pack DIR SOURCE, drill N\n";
+    let note =
+        "whload: usage: whload load DIR [--batch N], explain DIR, check DIR, dump DIR, pack DIR SOURCE, drill N\n";
     let none: &[&str] = &[];
-    for words in [none, &["load"], &["load", "d", "e"], &["Load", "d"], &["dump", "d"]] {
-        let mut on = devices(&rt, Some(FLOW), Some(THREE), b"")?;
+    for words in [
+        none,
+        &["load"],
+        &["load", "d", "e"],
+        &["Load", "d"],
+        &["dump", "d"],
+    ] {
+        let mut on = prepare(&rt, Some(FLOW), Some(THREE), b"")?;
         let ending = command(&rt, &mut on, words)?;
         is_refused(&rt, ending, &on, Reason::Usage, note);
         assert_eq!(rt; ending.status.code(), 2);
@@ -167,11 +199,17 @@ fn other_words_are_no_command(rt: HostRuntime) -> Result<(), Fail> {
 #[test]
 fn a_device_that_fails_is_named(rt: HostRuntime) -> Result<(), Fail> {
     for call in 1..6 {
-        let mut on = devices(&rt, Some(FLOW), Some(THREE), b"")?;
+        let mut on = prepare(&rt, Some(FLOW), Some(THREE), b"")?;
         on.depot.fail_at(call)?;
         let ending = load(&rt, &mut on)?;
         if call < 5 {
-            is_refused(&rt, ending, &on, Reason::Depot, "whload: a source file failed\n");
+            is_refused(
+                &rt,
+                ending,
+                &on,
+                Reason::Depot,
+                "whload: a source file failed\n",
+            );
             assert_eq!(rt; on.disk.bytes(), b"".as_slice());
         } else {
             is_done(&rt, ending, &on, "complete\nbefore 0\nadded 3\n");
@@ -179,11 +217,17 @@ fn a_device_that_fails_is_named(rt: HostRuntime) -> Result<(), Fail> {
     }
     // The size twice, six calls to make the table, four for each of two blocks.
     for call in 1..18 {
-        let mut on = devices(&rt, Some(FLOW), Some(THREE), b"")?;
+        let mut on = prepare(&rt, Some(FLOW), Some(THREE), b"")?;
         on.disk.fail_at(call)?;
         let ending = load(&rt, &mut on)?;
         if call < 17 {
-            is_refused(&rt, ending, &on, Reason::Disk, "whload: the table file failed\n");
+            is_refused(
+                &rt,
+                ending,
+                &on,
+                Reason::Disk,
+                "whload: the table file failed\n",
+            );
             assert_eq!(rt; ending.status.code(), 5);
         } else {
             is_done(&rt, ending, &on, "complete\nbefore 0\nadded 3\n");
@@ -194,17 +238,26 @@ fn a_device_that_fails_is_named(rt: HostRuntime) -> Result<(), Fail> {
 
 #[test]
 fn a_failed_output_leaves_the_table_ended(rt: HostRuntime) -> Result<(), Fail> {
-    let mut on = devices(&rt, Some(FLOW), Some(THREE), b"")?;
+    let mut on = prepare(&rt, Some(FLOW), Some(THREE), b"")?;
     on.out.fail_at(1)?;
     let ending = load(&rt, &mut on)?;
-    is_refused(&rt, ending, &on, Reason::Sink, "whload: the output failed\n");
-    assert_eq!(rt; blocks(&rt, &on, FLOW)?.as_str().strip_prefix(THREE_ROWS), Some(END));
+    is_refused(
+        &rt,
+        ending,
+        &on,
+        Reason::Sink,
+        "whload: the output failed\n",
+    );
+    assert_eq!(rt;
+        blocks(&rt, &on, FLOW)?.as_str().strip_prefix(THREE_ROWS),
+        Some(END)
+    );
     Ok(())
 }
 
 #[test]
 fn a_failed_note_changes_no_status(rt: HostRuntime) -> Result<(), Fail> {
-    let mut on = devices(&rt, None, None, b"")?;
+    let mut on = prepare(&rt, None, None, b"")?;
     on.notes.fail_at(1)?;
     let ending = load(&rt, &mut on)?;
     is_refused(&rt, ending, &on, Reason::FlowMissing, "");
@@ -219,14 +272,22 @@ fn ample_memory_is_never_memory(rt: HostRuntime) -> Result<(), Fail> {
     for i in 0..1000u32 {
         writeln!(nums, "{i},-{i}")?;
     }
-    let mut on = devices(&rt, Some(FLOW), Some(nums.as_str()), b"")?;
+    let mut on = prepare(&rt, Some(FLOW), Some(nums.as_str()), b"")?;
     let ending = load(&rt, &mut on)?;
     is_done(&rt, ending, &on, "complete\nbefore 0\nadded 1000\n");
     assert_eq!(rt; on.disk.starved(), 0);
     nums.push_str("7,7\n")?;
-    let mut on = devices(&rt, Some(FLOW), Some(nums.as_str()), b"")?;
+    let mut on = prepare(&rt, Some(FLOW), Some(nums.as_str()), b"")?;
     let ending = load(&rt, &mut on)?;
-    let reason = Reason::NotBuilt { what: Unbuilt::Source };
-    is_refused(&rt, ending, &on, reason, "whload: source file is not built yet\n");
+    let reason = Reason::NotBuilt {
+        what: Unbuilt::Source,
+    };
+    is_refused(
+        &rt,
+        ending,
+        &on,
+        reason,
+        "whload: source file is not built yet\n",
+    );
     Ok(())
 }

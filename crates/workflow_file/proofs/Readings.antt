@@ -1,5 +1,5 @@
 -- What is known of a value that a reading gives.
-use Rattle.std.proofs.Common.{◌≡◌, ℕ, suc, ◌+◌, ◌<◌, ◌≤◌, List, [], ◌∷◌, length, Bool, nat_lt, Option, Some, None, Result, Ok, Err, refl, ap, sym, ◌∙◌, inl, inr, All, arith}
+use Rattle.std.proofs.Common.{◌≡◌, ℕ, suc, ◌+◌, ◌≤◌, List, [], ◌∷◌, length, nat_lt, Option, Some, None, Result, Ok, Err, refl, ap, inl, inr, All, arith}
 use Rattle.std.specs.Prelude.{IfOk, IfSome, codes, ⊤}
 use Rattle.std.proofs.lemmas.Bool.{cases_Bool}
 use Rattle.std.proofs.lemmas.Bool.Decides.{nat_tests}
@@ -12,7 +12,7 @@ use Rattle.workflow_file.specs.declared.raw.RawSource.{RawSource}
 use Rattle.workflow_file.specs.Texts.{name_lack, file_lack, column_lack, either_lack, text_lack}
 use Rattle.workflow_file.specs.Parts.{Part, lacks, accepted, present, optional, each, text_in, items_in, texts_in, text_at, text_if, texts_at, texts_if, no_other, count_lack, list_of}
 use Rattle.workflow_file.specs.Flows.{source_of, source_keys, raw_source_in}
-use Rattle.workflow_file.specs.Kept.{KeepsRule, KeepRule, AreNames, KeepsSource}
+use Rattle.workflow_file.specs.Kept.{KeepsRule, KeepRule, KeepsSource}
 
 -- the reading gives only what keeps a rule
 pub record Keeps {X F : Type 0} (P : X → Type 0) (r : Result X F) : Type 0 where
@@ -73,9 +73,9 @@ counted least most n h =
     elim (cases_Bool (nat_lt n least)) [
       | inl few ↦ absurd (let e = rw few at h in cc)
       | inr enough ↦ elim (cases_Bool (nat_lt most n)) [
-          | inl many ↦ absurd (let e = rw (enough, many) at h in cc)
-          | inr fits ↦ (grind (arith, nat_tests), grind (arith, nat_tests))
-        ]
+        | inl many ↦ absurd (let e = rw (enough, many) at h in cc)
+        | inr fits ↦ (grind (arith, nat_tests), grind (arith, nat_tests))
+      ]
     ]
 
 items_keep : (least most : ℕ) (part : Part) (key : List ℕ) (d : Data) → Keeps (IsCounted least most) (items_in least most part key d)
@@ -126,8 +126,15 @@ source_keeps n ms =
     step _ _ (texts_if_keep name_lack part (codes "grouped")) (λ grouped grouped_keep.
     step _ _ (any (no_other part source_keys)) (λ nothing is.
     gives (record {
-      name = name_keeps; file = file_keeps; format = format_keeps; header = header_keeps;
-      columns = columns_keep; promise = promise_keeps; key = key_keeps; grouped = grouped_keep }))))))))))
+      name = name_keeps;
+      file = file_keeps;
+      format = format_keeps;
+      header = header_keeps;
+      columns = columns_keep;
+      promise = promise_keeps;
+      key = key_keeps;
+      grouped = grouped_keep;
+    }))))))))))
 
 pub sources_keep : (tables : List Members) (sources : List RawSource) → each raw_source_in 1 tables ≡ Ok sources → All KeepsSource sources
 sources_keep tables sources h =

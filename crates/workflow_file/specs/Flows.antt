@@ -1,12 +1,11 @@
 -- The flow that a document is, or its first fault: section after section, and in each its keys in order.
-use Rattle.std.specs.Prelude.{ℕ, List, [], ◌∷◌, codes, if◌then◌else◌, Option, Some, None, Result, Ok, Err}
+use Rattle.std.specs.Prelude.{ℕ, List, [], ◌∷◌, codes, if◌then◌else◌, Option, None, Result, Ok}
 use Rattle.std.specs.Str.{is_utf8}
 use Rattle.toml.specs.Data.{Members}
 use Rattle.toml.specs.Parse.{parse_document}
 use Rattle.tuple_schema.specs.Stops.{◌>>=◌}
 use Rattle.workflow_file.specs.declared.fault.Section.TheVariants as section
 use Rattle.workflow_file.specs.declared.fault.FlowFault.{FlowFault}
-use Rattle.workflow_file.specs.declared.fault.FlowFault.TheVariants as fault
 use Rattle.workflow_file.specs.declared.raw.RawTable.{RawTable}
 use Rattle.workflow_file.specs.declared.raw.RawSource.{RawSource}
 use Rattle.workflow_file.specs.Texts.{name_lack, file_lack, column_lack, either_lack}

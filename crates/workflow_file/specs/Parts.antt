@@ -1,5 +1,5 @@
 -- How the keys of a table are read: each value by its rule, or the fault at its place.
-use Rattle.std.specs.Prelude.{ℕ, zero, ◌+◌, ◌==◌, List, [], ◌∷◌, length, codes, bytes_eq, Bool, true, false, nat_lt, if◌then◌else◌, Option, Some, None, Result, Ok, Err, unwrap_or}
+use Rattle.std.specs.Prelude.{ℕ, ◌+◌, List, [], ◌∷◌, length, bytes_eq, nat_lt, if◌then◌else◌, Option, Some, None, Result, Ok, Err}
 use Rattle.std.specs.List.{list_any}
 use Rattle.toml.specs.Data.{Data, string, array, table, Items, no_items, item, Members, no_members, member, get_member}
 use Rattle.tuple_schema.specs.Stops.{◌>>=◌}

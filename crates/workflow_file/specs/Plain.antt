@@ -1,16 +1,15 @@
 -- Plain flows: a single source, whose rows are loaded as they are.
-use Rattle.std.specs.Prelude.{ℕ, List, [], ◌∷◌, map, codes, bytes_eq, Bool, true, false, ◌&&◌, is_none, if◌then◌else◌, Option, Some, None, Result, Ok, Err, option_and_then, ◌≡◌}
+use Rattle.std.specs.Prelude.{ℕ, List, [], ◌∷◌, map, codes, bytes_eq, Bool, false, ◌&&◌, is_none, if◌then◌else◌, Option, Some, None, Result, Ok, Err, option_and_then, ◌≡◌}
 use Rattle.std.specs.List.{list_all}
 use Rattle.toml.specs.Data.{Members}
 use Rattle.tuple_schema.specs.declared.schema.Column.{Column}
 use Rattle.tuple_schema.specs.declared.schema.ColumnKind.TheVariants as kind
 use Rattle.tuple_schema.specs.Schemas.{are_distinct}
-use Rattle.workflow_file.specs.declared.fault.FlowFault.{FlowFault}
 use Rattle.workflow_file.specs.declared.raw.RawTable.{RawTable}
 use Rattle.workflow_file.specs.declared.raw.RawSource.{RawSource}
 use Rattle.workflow_file.specs.declared.plain.PlainFlow.{PlainFlow}
 use Rattle.workflow_file.specs.Texts.{head_of, rest_of}
-use Rattle.workflow_file.specs.Flows.{Front, front_in, document_of}
+use Rattle.workflow_file.specs.Flows.{front_in, document_of}
 
 -- what a plain flow loads: the source's name, its file and its columns
 pub record Plain : Type 0 where

@@ -1,5 +1,5 @@
 -- The forms of the texts in a flow file, and what a text out of form lacks.
-use Rattle.std.specs.Prelude.{ℕ, ◌-◌, ◌==◌, List, length, take, slice_index, codes, bytes_eq, Bool, true, false, not, ◌&&◌, ◌||◌, nat_lt, nat_le, if◌then◌else◌, Option, Some, None}
+use Rattle.std.specs.Prelude.{ℕ, ◌-◌, ◌==◌, List, length, take, slice_index, codes, bytes_eq, Bool, false, not, ◌&&◌, ◌||◌, nat_lt, nat_le, if◌then◌else◌, Option, Some, None}
 use Rattle.std.specs.List.{list_all, position_or_len, before_first, after_first}
 use Rattle.workflow_file.specs.declared.fault.Lack.{Lack}
 use Rattle.workflow_file.specs.declared.fault.Lack.TheVariants as lack

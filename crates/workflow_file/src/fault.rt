@@ -1,7 +1,7 @@
 // Where a flow file has a fault, and which.
-use tuple_schema::Text;
 use std::fmt;
 use thiserror::Error;
+use tuple_schema::Text;
 
 /// A section of the flow file.
 #[derive(Clone, Copy, Debug, PartialEq, Eq)]

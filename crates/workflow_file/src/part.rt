@@ -42,7 +42,13 @@ impl<'a> Part<'a> {
         self.table.get(key)
     }
 
-    fn refuse<T>(&self, alloc: Global, key: &str, item: u32, what: Lack) -> Result<T, Stop<FlowFault>>
+    fn refuse<T>(
+        &self,
+        alloc: Global,
+        key: &str,
+        item: u32,
+        what: Lack,
+    ) -> Result<T, Stop<FlowFault>>
         requires { length key.now ≤ 4096 }
         ensures { Gives result (Err (lacks (part_of self.now) key.now item what)) }
     {
@@ -58,7 +64,14 @@ impl<'a> Part<'a> {
 
     /// The text at an item of the key.
     #[tactic(auto, unfolding(crate::specs::Parts::text_in))]
-    fn text_in(&self, alloc: Global, key: &str, item: u32, value: &Value, rule: &Rule) -> Result<Text, Stop<FlowFault>>
+    fn text_in(
+        &self,
+        alloc: Global,
+        key: &str,
+        item: u32,
+        value: &Value,
+        rule: &Rule,
+    ) -> Result<Text, Stop<FlowFault>>
         requires { length key.now ≤ 4096 }
         ensures { Gives result (text_in (lack_by rule.now) (part_of self.now) key.now item (view value.now)) }
     {
@@ -83,7 +96,12 @@ impl<'a> Part<'a> {
     }
 
     /// The text at the key, which may be absent.
-    pub fn text_if(&self, alloc: Global, key: &str, rule: &Rule) -> Result<Option<Text>, Stop<FlowFault>>
+    pub fn text_if(
+        &self,
+        alloc: Global,
+        key: &str,
+        rule: &Rule,
+    ) -> Result<Option<Text>, Stop<FlowFault>>
         requires { length key.now ≤ 4096 }
         ensures { Gives result (text_if (part_of self.now) key.now (lack_by rule.now)) }
     {
@@ -95,7 +113,14 @@ impl<'a> Part<'a> {
 
     /// The items of the list at the key.
     #[tactic(auto, using(crate::proofs::Items::listed, crate::proofs::Items::count_listed), unfolding(crate::specs::Parts::items_in))]
-    fn items_in<'v>(&self, alloc: Global, key: &str, value: &'v Value, least: usize, most: usize) -> Result<&'v Array, Stop<FlowFault>>
+    fn items_in<'v>(
+        &self,
+        alloc: Global,
+        key: &str,
+        value: &'v Value,
+        least: usize,
+        most: usize,
+    ) -> Result<&'v Array, Stop<FlowFault>>
         requires { length key.now ≤ 4096 }
         ensures few { IfOk result (λ v. vec_len v.now ≤ most) }
         ensures given { GivesView (λ v. map view v.now.items) result (items_in least most (part_of self.now) key.now (view value.now)) }
@@ -112,7 +137,13 @@ impl<'a> Part<'a> {
         Ok(items)
     }
     // Reads each of the values as an item of the key.
-    fn each_text(&self, alloc: Global, key: &str, values: &[Value], rule: &Rule) -> Result<Names, Stop<FlowFault>>
+    fn each_text(
+        &self,
+        alloc: Global,
+        key: &str,
+        values: &[Value],
+        rule: &Rule,
+    ) -> Result<Names, Stop<FlowFault>>
         requires short { length key.now ≤ 4096 }
         requires few { length values.now ≤ 64 }
         ensures { Gives result (each (text_in (lack_by rule.now) (part_of self.now) key.now) 1 (map view values.now)) }
@@ -127,7 +158,12 @@ impl<'a> Part<'a> {
     }
 
     // Reads each of the values as an item of the key.
-    fn each_table<'v>(&self, alloc: Global, key: &str, values: &'v [Value]) -> Result<Vec<&'v Table>, Stop<FlowFault>>
+    fn each_table<'v>(
+        &self,
+        alloc: Global,
+        key: &str,
+        values: &'v [Value],
+    ) -> Result<Vec<&'v Table>, Stop<FlowFault>>
         requires short { length key.now ≤ 4096 }
         requires few { length values.now ≤ 64 }
         ensures same { IfOk result (λ v. vec_len v ≡ length values.now) }
@@ -144,7 +180,13 @@ impl<'a> Part<'a> {
 
     // The table at an item of the key.
     #[tactic(auto, unfolding(crate::specs::Parts::table_in))]
-    fn table_in<'v>(&self, alloc: Global, key: &str, item: u32, value: &'v Value) -> Result<&'v Table, Stop<FlowFault>>
+    fn table_in<'v>(
+        &self,
+        alloc: Global,
+        key: &str,
+        item: u32,
+        value: &'v Value,
+    ) -> Result<&'v Table, Stop<FlowFault>>
         requires { length key.now ≤ 4096 }
         ensures { GivesView (λ t. table_view t.now) result (table_in (part_of self.now) key.now item (view value.now)) }
     {
@@ -153,8 +195,15 @@ impl<'a> Part<'a> {
             Some(table) => Ok(table),
         }
     }
+
     #[tactic(auto, unfolding(crate::specs::Parts::texts_in))]
-    fn texts_in(&self, alloc: Global, key: &str, value: &Value, rule: &Rule) -> Result<Names, Stop<FlowFault>>
+    fn texts_in(
+        &self,
+        alloc: Global,
+        key: &str,
+        value: &Value,
+        rule: &Rule,
+    ) -> Result<Names, Stop<FlowFault>>
         requires { length key.now ≤ 4096 }
         ensures { Gives result (texts_in (lack_by rule.now) 1 64 (part_of self.now) key.now (view value.now)) }
     {
@@ -174,7 +223,12 @@ impl<'a> Part<'a> {
     }
 
     /// The texts of the list at the key, which may be absent.
-    pub fn texts_if(&self, alloc: Global, key: &str, rule: &Rule) -> Result<Option<Names>, Stop<FlowFault>>
+    pub fn texts_if(
+        &self,
+        alloc: Global,
+        key: &str,
+        rule: &Rule,
+    ) -> Result<Option<Names>, Stop<FlowFault>>
         requires { length key.now ≤ 4096 }
         ensures { Gives result (texts_if (part_of self.now) key.now (lack_by rule.now)) }
     {
@@ -185,7 +239,14 @@ impl<'a> Part<'a> {
     }
 
     #[tactic(auto, unfolding(crate::specs::Parts::tables_in))]
-    fn tables_in<'v>(&self, alloc: Global, key: &str, value: &'v Value, least: usize, most: usize) -> Result<Vec<&'v Table>, Stop<FlowFault>>
+    fn tables_in<'v>(
+        &self,
+        alloc: Global,
+        key: &str,
+        value: &'v Value,
+        least: usize,
+        most: usize,
+    ) -> Result<Vec<&'v Table>, Stop<FlowFault>>
         requires short { length key.now ≤ 4096 }
         requires few { most ≤ 64 }
         ensures some { IfOk result (λ v. vec_len v ≤ most) }
@@ -207,7 +268,13 @@ impl<'a> Part<'a> {
     }
 
     /// The tables of the list at the key.
-    pub fn tables(&self, alloc: Global, key: &str, least: usize, most: usize) -> Result<Vec<&'a Table>, Stop<FlowFault>>
+    pub fn tables(
+        &self,
+        alloc: Global,
+        key: &str,
+        least: usize,
+        most: usize,
+    ) -> Result<Vec<&'a Table>, Stop<FlowFault>>
         requires short { length key.now ≤ 4096 }
         requires few { most ≤ 64 }
         ensures some { IfOk result (λ v. vec_len v ≤ most) }
@@ -220,7 +287,13 @@ impl<'a> Part<'a> {
     }
 
     /// The tables of the list at the key, and none where it is absent.
-    pub fn tables_if(&self, alloc: Global, key: &str, least: usize, most: usize) -> Result<Vec<&'a Table>, Stop<FlowFault>>
+    pub fn tables_if(
+        &self,
+        alloc: Global,
+        key: &str,
+        least: usize,
+        most: usize,
+    ) -> Result<Vec<&'a Table>, Stop<FlowFault>>
         requires short { length key.now ≤ 4096 }
         requires few { most ≤ 64 }
         ensures some { IfOk result (λ v. vec_len v ≤ most) }

@@ -6,4 +6,5 @@ use Rattle.whload.proofs.table.block_of.Given as goal
 abbrev pub invariant-loop-row : goal.invariant-loop-row
 invariant-loop-row l = record {
   stored : l.block ≡ stored_of (take l.row-index l.rows);
-  short : length (rows_bytes (take l.row-index l.rows)) ≤ 576 * l.row-index }
+  short : length (rows_bytes (take l.row-index l.rows)) ≤ 576 * l.row-index;
+}

@@ -1,4 +1,4 @@
-use Rattle.std.proofs.Common.{◌≡◌, length, map, arith, ap, sym}
+use Rattle.std.proofs.Common.{length, arith, ap, sym}
 use Rattle.workflow_file.specs.Kept.{KeepsSource}
 use Rattle.workflow_file.proofs.Names.{int_schema, all_ints}
 use Rattle.workflow_file.proofs.plain.plain_of.Goals as goal
