@@ -1,3 +1,4 @@
+pub mod CrashImages
 pub mod Fills
 pub mod Histories
 pub mod Lookups

@@ -7,6 +7,7 @@ pub mod Sink
 pub mod Whole
 pub mod MemoryDepot
 pub mod History
+pub mod Crashes
 pub mod Events
 pub mod MemoryDisk
 pub mod MemorySink

@@ -5,6 +5,7 @@ ghost use Rattle.outside.specs.Counts.{HasCause};
 ghost use Rattle.outside.specs.Countdown.{is_due, nearer, with_failure, with_want};
 ghost use Rattle.outside.specs.Disk.{Reads, overwritten};
 ghost use Rattle.outside.specs.History.{with_event, written, synced};
+ghost use Rattle.outside.specs.Crashes.{images_of, images_at, content_is_image, images_at_end};
 ghost use Rattle.outside.specs.MemoryDisk.{seen_of};
 
 use crate::countdown::{Countdown, starve};
@@ -75,7 +76,17 @@ impl Disk for MemoryDisk {
 
     ghost seen = { seen_of };
 
+    ghost may_leave = { λ d. images_of d.history };
+
+    ghost clock = { λ d. length d.history.events };
+
+    ghost left_at = { λ d. images_at d.history };
+
     ghost faults = { λ d. d.faults };
+
+    ghost reads_image = { λ d _. content_is_image d.history };
+
+    ghost left_now = { λ d _. images_at_end d.history };
 
     fn size(&mut self) -> Result<u64, Failed>
         ensures told { IfOk result (λ size. size ≡ length (seen_of self.old)) }
