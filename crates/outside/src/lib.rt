@@ -24,6 +24,7 @@ mod memory_sink;
 mod plain_file;
 mod sink;
 mod std_sink;
+mod stopping;
 mod whole;
 
 pub use depot::Depot;
@@ -35,6 +36,7 @@ pub use memory_disk::MemoryDisk;
 pub use memory_sink::MemorySink;
 pub use sink::Sink;
 pub use std_sink::StdSink;
+pub use stopping::Torn;
 use tuple_schema::Stop;
 pub use whole::{WholeFile, put_all, read_whole};
 
