@@ -9,8 +9,10 @@
 //! Not promised: that memory is found, other than where the buffer has room for the row already.
 #![tactic(auto)]
 
+mod decode;
 mod encode;
 mod fields;
 
+pub use decode::{RowFault, decode_row};
 pub use encode::encode_row;
 pub use fields::{FieldFault, read_field};
