@@ -1,7 +1,8 @@
 // Rows from their bytes.
-ghost use Rattle.std.specs.Prelude.{◌≡◌, ◌≤◌, length, drop, IfOk};
+ghost use Rattle.std.specs.Prelude.{◌≡◌, ◌≤◌, length, take, drop, IfOk};
 ghost use Rattle.tuple_schema.specs.Stops.{GivesView};
 ghost use Rattle.tuple_schema.specs.Schemas.{Fits};
+ghost use Rattle.row_codec.specs.Rows.{row_bytes};
 ghost use Rattle.row_codec.specs.Decoding.{number_at, text_at, content_at, value_at, row_at};
 
 use std::alloc::Global;
@@ -35,6 +36,7 @@ pub fn decode_row(
 ) -> Result<(Tuple, usize), Stop<RowFault>>
     ensures reading { GivesView (λ found. (found.0, drop found.1 bytes.now)) result (row_at schema.now bytes.now) }
     ensures within { IfOk result (λ found. found.1 ≤ length bytes.now) }
+    ensures front { IfOk result (λ found. take found.1 bytes.now ≡ row_bytes found.0) }
     ensures fits { IfOk result (λ found. Fits schema.now found.0) }
 {
     let (values, rest) = read_values(alloc, bytes, schema.columns())?;

@@ -12,7 +12,9 @@
 mod decode;
 mod encode;
 mod fields;
+mod laws;
 
 pub use decode::{RowFault, decode_row};
 pub use encode::encode_row;
 pub use fields::{FieldFault, read_field};
+pub use laws::codec_laws;
