@@ -1,11 +1,11 @@
 -- What is read is spelled so, and what is spelled so is read again.
-use Rattle.std.proofs.Common.{◌≡◌, ℕ, zero, suc, ℤ, ◌+◌, ◌-◌, ◌^◌, ◌<◌, ◌≤◌, Bool, true, false, cond, ltb, List, [], ◌∷◌, ◌++◌, length, take, drop, get_or, All, Result, Ok, Err, IsUtf8, ◌⊎◌, inl, inr, refl, sym, ap, subst, ◌∙◌, append_assoc, length-append, arith}
+use Rattle.std.proofs.Common.{◌≡◌, ℕ, zero, suc, ℤ, ◌+◌, ◌-◌, ◌^◌, ◌<◌, ◌≤◌, Bool, true, false, cond, ltb, eqb, List, [], ◌∷◌, ◌++◌, length, take, drop, get_or, All, Result, Ok, Err, IsUtf8, ◌⊎◌, inl, inr, refl, sym, ap, subst, ◌∙◌, append_assoc, length-append, arith}
 use Rattle.std.specs.Str.{is_utf8}
 use Rattle.std.specs.Int.{w8, w16, w64, from_be_bytes, to_be_bytes, cast_signed, cast_unsigned}
 use Rattle.std.specs.Int.RustNames.{FitsSigned}
 use Rattle.std.proofs.Math.Facts.{sfits_to_z, Fits-of_z}
 use mir.Val.{Fits as FitsWidth}
-use Rattle.std.proofs.lemmas.Bool.{cases_lt, ltb-false, le-ltb, and_parts}
+use Rattle.std.proofs.lemmas.Bool.{cases_lt, ltb-false, le-ltb, eqb-true, and_parts}
 use Rattle.std.proofs.lemmas.Int.{of_z-to_z, to_z-of_z}
 use Rattle.std.proofs.lemmas.List.{take_at, drop_at, take-append-drop, length-take, get_or_past}
 use Rattle.std.proofs.lemmas.List.Concat.{flat_map-cons}
@@ -22,7 +22,7 @@ use Rattle.tuple_schema.specs.Stops.{◌>>=◌}
 use Rattle.row_codec.specs.declared.decode.RowFault.{RowFault}
 use Rattle.row_codec.specs.declared.decode.RowFault.TheVariants as fault
 use Rattle.row_codec.specs.Rows.{number_bytes, value_bytes, row_bytes}
-use Rattle.row_codec.specs.Decoding.{bytes_at, number_at, as_text, text_of, text_at, content_at, value_at, row_at, IsHeld, IsRowOf, AreBytes}
+use Rattle.row_codec.specs.Decoding.{bytes_at, number_at, text_of, text_at, content_at, value_at, row_at, IsHeld, IsRowOf, AreBytes}
 
 -- ---- steps
 
@@ -43,6 +43,11 @@ guard_ok false d r y e = (refl, e)
 needs_ok : {A F : Type 0} (b : Bool) (d : F) (r : Result A F) (y : A) → cond b r (Err d) ≡ Ok y → (b ≡ true) × (r ≡ Ok y)
 needs_ok true d r y e = (refl, e)
 needs_ok false d r y e = absurd cc
+
+-- what a test chose
+chosen : {A : Type 0} (b : Bool) (x y z : A) → cond b x y ≡ z → ((b ≡ true) × (x ≡ z)) ⊎ ((b ≡ false) × (y ≡ z))
+chosen true x y z e = inl (refl, e)
+chosen false x y z e = inr (refl, e)
 
 abbrev done : {A : Type 0} → A → Result A RowFault
 done x = Ok x
@@ -114,11 +119,14 @@ number_again n rest fits =
 pub is_not_utf8 : (bs : List ℕ) → ¬ (IsUtf8 bs) → is_utf8 bs ≡ false
 is_not_utf8 bs differs = elim (bool_cases (is_utf8 bs)) [ inl is ↦ absurd (differs (IsUtf8-from_is_utf8 bs is)) | inr is ↦ is ]
 
+abbrev as_text : List ℕ × List ℕ → Result (List ℕ × List ℕ) RowFault
+as_text text = cond (is_utf8 text.0) (Ok text) (Err fault.BadText)
+
 abbrev text_bytes : List ℕ → List ℕ
 text_bytes text = to_be_bytes w16 (length text) ++ text
 
 text_take : (bytes : List ℕ) (found : List ℕ × List ℕ) → AreBytes bytes → text_at bytes ≡ Ok found → (bytes ≡ text_bytes found.0 ++ found.1) × IsUtf8 found.0 × (length found.0 ≤ 4096)
-unfolding text_at text_of as_text
+unfolding text_at text_of
 text_take bytes found are e =
     let a = bind_ok (bytes_at 2 bytes) (λ size. text_of (from_be_bytes w16 size.0) size.1) found e in
     let size = bytes_take 2 bytes a.0 a.1 in
@@ -134,7 +142,7 @@ text_take bytes found are e =
         (spelled, IsUtf8-from_is_utf8 c.0.0 d.0, omega (arith, text.1))
 
 text_again : (text rest : List ℕ) → IsUtf8 text → length text ≤ 4096 → text_at (text_bytes text ++ rest) ≡ Ok (text, rest)
-unfolding text_at text_of as_text
+unfolding text_at text_of
 text_again text rest is short =
     let size : from_be_bytes w16 (to_be_bytes w16 (length text)) ≡ length text = from_be_bytes-to_be_bytes_2 (length text) (omega arith) in
     let few : ltb 4096 (length text) ≡ false = le-ltb _ _ short in
@@ -171,11 +179,15 @@ content_take kind.Text nullable bytes found are e =
 value_take : (c : Column) (bytes : List ℕ) (found : Value × List ℕ) → AreBytes bytes → value_at c bytes ≡ Ok found → Spells c.kind c.nullable bytes found
 unfolding value_at
 value_take c [] found are e = absurd cc
-value_take c (zero ∷ bytes) found are e =
-    let a = needs_ok c.nullable fault.NullRefused (Ok (value.Null, bytes)) found e in
-    subst (Spells c.kind c.nullable (0 ∷ bytes)) (ok_is (value.Null, bytes) found a.1) record { parts = refl; is_of = a.0; held = tt }
-value_take c (suc zero ∷ bytes) found are e = content_take c.kind c.nullable bytes found (All-tail (λ b. b < 256) 1 bytes are) e
-value_take c (suc (suc tag) ∷ bytes) found are e = absurd cc
+value_take c (tag ∷ bytes) found are e =
+    elim (chosen (eqb tag 0) (cond c.nullable (Ok (value.Null, bytes)) (Err fault.NullRefused)) (cond (eqb tag 1) (content_at c.kind bytes) (Err fault.BadTag)) (Ok found) e) [
+      | inl null ↦
+        let a = needs_ok c.nullable fault.NullRefused (Ok (value.Null, bytes)) found null.1 in
+        subst (Spells c.kind c.nullable (tag ∷ bytes)) (ok_is (value.Null, bytes) found a.1) record { parts = ap (λ t. t ∷ bytes) (eqb-true tag 0 null.0); is_of = a.0; held = tt }
+      | inr other ↦
+        let a = needs_ok (eqb tag 1) fault.BadTag (content_at c.kind bytes) found other.1 in
+        subst (λ t. Spells c.kind c.nullable (t ∷ bytes) found) (sym (eqb-true tag 1 a.0)) (content_take c.kind c.nullable bytes found (All-tail (λ b. b < 256) tag bytes are) a.1)
+    ]
 
 int_again : (k : ColumnKind) (nullable : Bool) (n : ℤ) (rest : List ℕ) → is_of k nullable (value.Int n) ≡ true → FitsSigned w64 n → content_at k (number_bytes n ++ rest) ≡ Ok (value.Int n, rest)
 unfolding content_at

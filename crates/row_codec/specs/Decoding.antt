@@ -1,5 +1,5 @@
 -- Reading the row at the front of bytes, column by column, with the first fault that is met.
-use Rattle.std.specs.Prelude.{ℕ, zero, suc, ℤ, ◌<◌, ◌≤◌, List, [], ◌∷◌, length, take, drop, All, Result, Ok, Err, IsUtf8, nat_lt, if◌then◌else◌, ⊤}
+use Rattle.std.specs.Prelude.{ℕ, ℤ, ◌<◌, ◌≤◌, List, [], ◌∷◌, length, take, drop, All, Result, Ok, Err, IsUtf8, nat_lt, ◌==◌, if◌then◌else◌, ⊤}
 use Rattle.std.specs.Int.{w16, w64, from_be_bytes, cast_signed}
 use Rattle.std.specs.Int.RustNames.{FitsSigned}
 use Rattle.std.specs.Str.{is_utf8}
@@ -25,13 +25,11 @@ number_at bytes = do
   number ← bytes_at 8 bytes
   Ok (cast_signed w64 (from_be_bytes w64 number.0), number.1)
 
--- the bytes where they are UTF-8
-unfoldable pub as_text : List ℕ × List ℕ → Result (List ℕ × List ℕ) RowFault
-as_text found = if is_utf8 found.0 then Ok found else Err fault.BadText
-
--- a text of so many bytes; that a length is too great is seen before its bytes are
+-- a text of so many bytes; that there are more than 4,096 is a fault before any of them is read
 unfoldable pub text_of : ℕ → List ℕ → Result (List ℕ × List ℕ) RowFault
-text_of size bytes = if nat_lt 4096 size then Err fault.BadText else bytes_at size bytes >>= as_text
+text_of size bytes = if nat_lt 4096 size then Err fault.BadText else do
+  text ← bytes_at size bytes
+  if is_utf8 text.0 then Ok text else Err fault.BadText
 
 -- two bytes of length, the highest first, and a text of that length
 unfoldable pub text_at : List ℕ → Result (List ℕ × List ℕ) RowFault
@@ -54,9 +52,10 @@ content_at kind.Text bytes = do
 -- a value of the column: the byte 0 is Null, and 1 stands before any other
 unfoldable pub value_at : Column → List ℕ → Result (Value × List ℕ) RowFault
 value_at column [] = Err fault.Short
-value_at column (zero ∷ rest) = if column.nullable then Ok (value.Null, rest) else Err fault.NullRefused
-value_at column (suc zero ∷ rest) = content_at column.kind rest
-value_at column (suc (suc tag) ∷ rest) = Err fault.BadTag
+value_at column (tag ∷ rest) =
+    if tag == 0 then (if column.nullable then Ok (value.Null, rest) else Err fault.NullRefused)
+    else if tag == 1 then content_at column.kind rest
+    else Err fault.BadTag
 
 -- a value of each column, from the left
 unfoldable pub row_at : List Column → List ℕ → Result (List Value × List ℕ) RowFault

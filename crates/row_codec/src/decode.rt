@@ -116,7 +116,7 @@ fn read_number(bytes: &[u8]) -> Result<(i64, &[u8]), Stop<RowFault>>
     }
 }
 
-#[tactic(auto, unfolding(crate::specs::Decoding::text_at, crate::specs::Decoding::text_of, crate::specs::Decoding::as_text, crate::specs::Decoding::bytes_at))]
+#[tactic(auto, unfolding(crate::specs::Decoding::text_at, crate::specs::Decoding::text_of, crate::specs::Decoding::bytes_at))]
 fn read_text(alloc: Global, bytes: &[u8]) -> Result<(Text, &[u8]), Stop<RowFault>>
     ensures { GivesView (λ found. (found.0, found.1.now)) result (text_at bytes.now) }
 {
