@@ -1,5 +1,5 @@
 -- What is read is spelled so, and what is spelled so is read again.
-use Rattle.std.proofs.Common.{◌≡◌, ℕ, zero, suc, ℤ, ◌+◌, ◌-◌, ◌^◌, ◌<◌, ◌≤◌, Bool, true, false, cond, ltb, eqb, List, [], ◌∷◌, ◌++◌, length, take, drop, get_or, All, Result, Ok, Err, IsUtf8, ◌⊎◌, inl, inr, refl, sym, ap, subst, ◌∙◌, append_assoc, length-append, arith}
+use Rattle.std.proofs.Common.{◌≡◌, ℕ, ℤ, ◌+◌, ◌-◌, ◌^◌, ◌<◌, ◌≤◌, Bool, true, false, cond, ltb, eqb, List, [], ◌∷◌, ◌++◌, length, take, drop, get_or, All, Result, Ok, Err, IsUtf8, ◌⊎◌, inl, inr, refl, sym, ap, subst, ◌∙◌, append_assoc, length-append, arith}
 use Rattle.std.specs.Str.{is_utf8}
 use Rattle.std.specs.Int.{w8, w16, w64, from_be_bytes, to_be_bytes, cast_signed, cast_unsigned}
 use Rattle.std.specs.Int.RustNames.{FitsSigned}
@@ -82,7 +82,7 @@ bytes_take count bytes found e =
     let g = guard_ok (ltb (length bytes) count) fault.Short (Ok (take count bytes, drop count bytes)) found e in
     let long : count ≤ length bytes = ltb-false _ _ g.0 in
     subst (λ (f : List ℕ × List ℕ). (bytes ≡ f.0 ++ f.1) × (length f.0 ≡ count)) (ok_is (take count bytes, drop count bytes) found g.1)
-        (sym (take-append-drop count bytes), omega (arith, length-take count bytes))
+    (sym (take-append-drop count bytes), omega (arith, length-take count bytes))
 
 bytes_again : (count : ℕ) (front rest : List ℕ) → length front ≡ count → bytes_at count (front ++ rest) ≡ Ok (front, rest)
 unfolding bytes_at
@@ -103,7 +103,7 @@ number_take bytes found are e =
     let back : to_be_bytes w64 n ≡ a.0.0 = be_bytes_8 a.0.0 n parts.1 each refl in
     let spelled : number_bytes (cast_signed w64 n) ≡ a.0.0 = ap (to_be_bytes w64) (of_z-to_z w64 n below) ∙ back in
     subst (λ (f : ℤ × List ℕ). (bytes ≡ number_bytes f.0 ++ f.1) × FitsSigned w64 f.0) (ok_is (cast_signed w64 n, a.0.1) found a.2)
-        (parts.0 ∙ ap (λ front. front ++ a.0.1) (sym spelled), sfits_to_z {w = w64} record { fits = below })
+    (parts.0 ∙ ap (λ front. front ++ a.0.1) (sym spelled), sfits_to_z {w = w64} record { fits = below })
 
 number_again : (n : ℤ) (rest : List ℕ) → FitsSigned w64 n → number_at (number_bytes n ++ rest) ≡ Ok (n, rest)
 unfolding number_at
@@ -139,7 +139,7 @@ text_take bytes found are e =
     let back : to_be_bytes w16 (length c.0.0) ≡ a.0.0 = be_bytes_2 a.0.0 (length c.0.0) size.1 (each_byte a.0.0 (front_bytes bytes a.0.0 a.0.1 size.0 are)) text.1 in
     let spelled : bytes ≡ text_bytes c.0.0 ++ c.0.1 = size.0 ∙ ap (λ rest. a.0.0 ++ rest) text.0 ∙ sym (append_assoc a.0.0 c.0.0 c.0.1) ∙ ap (λ front. front ++ c.0.0 ++ c.0.1) (sym back) in
     subst (λ (f : List ℕ × List ℕ). (bytes ≡ text_bytes f.0 ++ f.1) × IsUtf8 f.0 × (length f.0 ≤ 4096)) (ok_is c.0 found d.1)
-        (spelled, IsUtf8-from_is_utf8 c.0.0 d.0, omega (arith, text.1))
+    (spelled, IsUtf8-from_is_utf8 c.0.0 d.0, omega (arith, text.1))
 
 text_again : (text rest : List ℕ) → IsUtf8 text → length text ≤ 4096 → text_at (text_bytes text ++ rest) ≡ Ok (text, rest)
 unfolding text_at text_of
@@ -182,11 +182,11 @@ value_take c [] found are e = absurd cc
 value_take c (tag ∷ bytes) found are e =
     elim (chosen (eqb tag 0) (cond c.nullable (Ok (value.Null, bytes)) (Err fault.NullRefused)) (cond (eqb tag 1) (content_at c.kind bytes) (Err fault.BadTag)) (Ok found) e) [
       | inl null ↦
-        let a = needs_ok c.nullable fault.NullRefused (Ok (value.Null, bytes)) found null.1 in
-        subst (Spells c.kind c.nullable (tag ∷ bytes)) (ok_is (value.Null, bytes) found a.1) record { parts = ap (λ t. t ∷ bytes) (eqb-true tag 0 null.0); is_of = a.0; held = tt }
+          let a = needs_ok c.nullable fault.NullRefused (Ok (value.Null, bytes)) found null.1 in
+          subst (Spells c.kind c.nullable (tag ∷ bytes)) (ok_is (value.Null, bytes) found a.1) record { parts = ap (λ t. t ∷ bytes) (eqb-true tag 0 null.0); is_of = a.0; held = tt }
       | inr other ↦
-        let a = needs_ok (eqb tag 1) fault.BadTag (content_at c.kind bytes) found other.1 in
-        subst (λ t. Spells c.kind c.nullable (t ∷ bytes) found) (sym (eqb-true tag 1 a.0)) (content_take c.kind c.nullable bytes found (All-tail (λ b. b < 256) tag bytes are) a.1)
+          let a = needs_ok (eqb tag 1) fault.BadTag (content_at c.kind bytes) found other.1 in
+          subst (λ t. Spells c.kind c.nullable (t ∷ bytes) found) (sym (eqb-true tag 1 a.0)) (content_take c.kind c.nullable bytes found (All-tail (λ b. b < 256) tag bytes are) a.1)
     ]
 
 int_again : (k : ColumnKind) (nullable : Bool) (n : ℤ) (rest : List ℕ) → is_of k nullable (value.Int n) ≡ true → FitsSigned w64 n → content_at k (number_bytes n ++ rest) ≡ Ok (value.Int n, rest)
@@ -226,10 +226,10 @@ row_take (c ∷ cs) bytes found are e =
     let first = value_take c bytes a.0 are a.1 in
     let others = row_take cs a.0.1 b.0 (rest_bytes bytes (value_bytes a.0.0) a.0.1 first.parts are) b.1 in
     let spelled : bytes ≡ row_bytes (a.0.0 ∷ b.0.0) ++ b.0.1 =
-        first.parts ∙ ap (λ rest. value_bytes a.0.0 ++ rest) others.0 ∙ sym (append_assoc (value_bytes a.0.0) (row_bytes b.0.0) b.0.1) ∙ ap (λ front. front ++ b.0.1) (sym (flat_map-cons value_bytes a.0.0 b.0.0)) in
+    first.parts ∙ ap (λ rest. value_bytes a.0.0 ++ rest) others.0 ∙ sym (append_assoc (value_bytes a.0.0) (row_bytes b.0.0) b.0.1) ∙ ap (λ front. front ++ b.0.1) (sym (flat_map-cons value_bytes a.0.0 b.0.0)) in
     let fit : Fits (c ∷ cs) (a.0.0 ∷ b.0.0) = rw first.is_of others.1.fits in
     subst (λ (f : List Value × List ℕ). (bytes ≡ row_bytes f.0 ++ f.1) × IsRowOf (c ∷ cs) f.0) (ok_is (a.0.0 ∷ b.0.0, b.0.1) found b.2)
-        (spelled, record { fits = fit; held = All-cons IsHeld a.0.0 b.0.0 first.held others.1.held })
+    (spelled, record { fits = fit; held = All-cons IsHeld a.0.0 b.0.0 first.held others.1.held })
 
 row_again : (cs : List Column) (row : List Value) (rest : List ℕ) → Fits cs row → All IsHeld row → row_at cs (row_bytes row ++ rest) ≡ Ok (row, rest)
 unfolding row_at

@@ -34,7 +34,8 @@ pub fn decode_row(
     bytes: &[u8],
     schema: &Schema,
 ) -> Result<(Tuple, usize), Stop<RowFault>>
-    ensures reading { GivesView (λ found. (found.0, drop found.1 bytes.now)) result (row_at schema.now bytes.now) }
+    ensures reading { GivesView (λ found. (found.0, drop found.1 bytes.now)) result
+        (row_at schema.now bytes.now) }
     ensures within { IfOk result (λ found. found.1 ≤ length bytes.now) }
     ensures front { IfOk result (λ found. take found.1 bytes.now ≡ row_bytes found.0) }
     ensures fits { IfOk result (λ found. Fits schema.now found.0) }
@@ -48,7 +49,8 @@ fn read_values<'a>(
     bytes: &'a [u8],
     columns: &[Column],
 ) -> Result<(Vec<Value>, &'a [u8]), Stop<RowFault>>
-    ensures { GivesView (λ found. (found.0.items, found.1.now)) result (row_at columns.now bytes.now) }
+    ensures { GivesView (λ found. (found.0.items, found.1.now)) result
+        (row_at columns.now bytes.now) }
 {
     let mut values = Vec::with_capacity(alloc, columns.len())?;
     let mut rest = bytes;
@@ -139,3 +141,6 @@ fn read_text(alloc: Global, bytes: &[u8]) -> Result<(Text, &[u8]), Stop<RowFault
         Err(_) => Err(Stop::Memory),
     }
 }
+
+#[cfg(test)]
+mod tests;
