@@ -11,7 +11,6 @@ use Rattle.workflow_file.specs.declared.raw.RawNode.{RawNode}
 use Rattle.workflow_file.specs.declared.raw.RawFlow.{RawFlow}
 use Rattle.workflow_file.specs.declared.plain.PlainFlow.{PlainFlow}
 use Rattle.workflow_file.specs.Texts.{head_of, rest_of}
-use Rattle.workflow_file.specs.Flows.{flow}
 
 -- what a plain flow loads: the source's name, its file and its columns
 pub record Plain : Type 0 where
@@ -60,10 +59,6 @@ abbrev pub plain_with : RawTable → List RawSource → List RawNode → Option 
 plain_with table (source ∷ []) [] = plain_source table source
 plain_with table sources nodes = None
 
--- one plain source, and no nodes
-abbrev pub plain : RawFlow → Option Plain
-plain flow = plain_with flow.table flow.sources flow.nodes
-
--- the plain flow that the bytes are
-unfoldable pub plain_flow : List ℕ → Option Plain
-plain_flow bytes = option_and_then plain (result_ok (flow bytes))
+-- the plain flow that a flow is: one plain source, and no nodes
+abbrev pub plain_flow : RawFlow → Option Plain
+plain_flow flow = plain_with flow.table flow.sources flow.nodes

@@ -19,5 +19,5 @@ mod sections;
 
 pub use fault::{FlowFault, Lack, Place, Section};
 pub use flow::read_flow;
-pub use plain::{PlainFlow, read_plain};
+pub use plain::{PlainFlow, plain_flow};
 pub use raw::{RawFlow, RawNode, RawNodes, RawSource, RawSources, RawTable};

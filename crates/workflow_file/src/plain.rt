@@ -1,17 +1,16 @@
 // Plain flows: a single source, whose rows are loaded as they are.
-ghost use Rattle.std.specs.Prelude.{◌≡◌, ◌≤◌, length, map, option_map, vec_len, All, bytes_eq, IfOk, IfSome, IsUtf8, Some, None};
+ghost use Rattle.std.specs.Prelude.{◌≡◌, length, map, option_map, All, bytes_eq, IfOk, IfSome};
 ghost use Rattle.std.specs.List.{list_all, list_any};
 ghost use Rattle.tuple_schema.specs.Schemas.{are_distinct, IsSchema};
 ghost use Rattle.workflow_file.specs.Texts.{head_of};
 ghost use Rattle.workflow_file.specs.Kept.{KeepsRules};
-ghost use Rattle.workflow_file.specs.Plain.{plain_of, plain_flow, plain, is_plain, int_column, is_int_column, IsInt};
+ghost use Rattle.workflow_file.specs.Plain.{plain_of, plain_flow, is_plain, int_column, is_int_column, IsInt};
 
-use crate::flow::read_flow;
 use crate::part::text_of;
 use crate::raw::{RawFlow, RawSource, RawTable};
 use crate::rule::{head_of, rest_of};
 use std::alloc::Global;
-use tuple_schema::{Column, ColumnKind, Memory, Schema, Stop, Text};
+use tuple_schema::{Column, ColumnKind, Memory, Schema, Text};
 
 /// What a plain flow loads: whole numbers of one source, in the order of its file.
 #[derive(Debug, Drop)]
@@ -21,23 +20,10 @@ pub struct PlainFlow {
     pub columns: Schema,
 }
 
-/// The plain flow that the bytes are, if they are one.
-#[tactic(auto, unfolding(crate::specs::Plain::plain_flow))]
-pub fn read_plain(alloc: Global, bytes: &[u8]) -> Result<Option<PlainFlow>, Memory>
-    requires { length bytes.now ≤ 65536 }
-    ensures flow { IfOk result (λ o. option_map plain_of o ≡ plain_flow bytes.now) }
-    ensures ints { IfOk result (λ o. IfSome o (λ p. All IsInt p.columns)) }
-{
-    match read_flow(alloc, bytes) {
-        Ok(flow) => plain_of(alloc, &flow),
-        Err(Stop::Memory) => Err(Memory),
-        Err(Stop::Fault(_)) => Ok(None),
-    }
-}
-
-fn plain_of(alloc: Global, flow: &RawFlow) -> Result<Option<PlainFlow>, Memory>
+/// The plain flow that a flow is, if it is one: the flows that can be loaded at this stage.
+pub fn plain_flow(alloc: Global, flow: &RawFlow) -> Result<Option<PlainFlow>, Memory>
     requires { KeepsRules flow.now }
-    ensures flow { IfOk result (λ o. option_map plain_of o ≡ plain flow.now) }
+    ensures flow { IfOk result (λ o. option_map plain_of o ≡ plain_flow flow.now) }
     ensures ints { IfOk result (λ o. IfSome o (λ p. All IsInt p.columns)) }
 {
     let sources = flow.sources.items();
@@ -135,6 +121,7 @@ fn has_name(columns: &[Column], name: &Text) -> bool
 #[cfg(test)]
 mod tests {
     use super::*;
+    use crate::read_flow;
     use std::test::Fail;
 
     const PLAIN: &str = "[table]
@@ -148,7 +135,8 @@ promise = 'seq'
 
     #[test]
     fn a_plain_flow_is_read(rt: HostRuntime) -> Result<(), Fail> {
-        let flow = read_plain(rt.alloc(), PLAIN.as_bytes())?.ok_or("not plain")?;
+        let flow = read_flow(rt.alloc(), PLAIN.as_bytes())?;
+        let flow = plain_flow(rt.alloc(), &flow)?.ok_or("not plain")?;
         assert_eq!(rt; flow.name.as_str(), "nums");
         assert_eq!(rt; flow.file.as_str(), "nums.csv");
         let columns = flow.columns.columns();

@@ -1,7 +1,7 @@
 use Rattle.std.proofs.Common.{length, arith, ap, sym}
 use Rattle.workflow_file.specs.Kept.{KeepsSource}
 use Rattle.workflow_file.proofs.Names.{int_schema, all_ints}
-use Rattle.workflow_file.proofs.plain.plain_of.Goals as goal
+use Rattle.workflow_file.proofs.plain.plain_flow.Goals as goal
 
 pub of-requires : goal.of-requires
 of-requires c =
