@@ -98,9 +98,22 @@ words_in part kind = do
 abbrev pub node_with : List ℕ → List ℕ → Inputs → Lists → Words → Option (List (List ℕ)) → RawNode
 node_with name kind inputs lists words declare =
     record {
-      name = name; kind = kind; input = inputs.input; inputs = inputs.inputs; left = inputs.left; right = inputs.right;
-      on = lists.on; test = words.test; columns = lists.columns; set = lists.set; by = lists.by; make = lists.make;
-      order = words.order; column = words.column; declare = declare }
+      name = name;
+      kind = kind;
+      input = inputs.input;
+      inputs = inputs.inputs;
+      left = inputs.left;
+      right = inputs.right;
+      on = lists.on;
+      test = words.test;
+      columns = lists.columns;
+      set = lists.set;
+      by = lists.by;
+      make = lists.make;
+      order = words.order;
+      column = words.column;
+      declare = declare;
+    }
 
 -- a kind's own keys: its inputs, then its lists, then its other texts
 unfoldable pub raw_node_in : ℕ → Members → Result RawNode FlowFault
