@@ -1,6 +1,6 @@
 pub mod Items
 pub mod Loops
-pub mod Keys
+pub mod KeyLemmas
 pub mod Documents
 pub mod Names
 pub mod Readings

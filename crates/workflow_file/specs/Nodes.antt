@@ -1,5 +1,5 @@
 -- The kinds of nodes, the keys of each, and what a node may declare.
-use Rattle.std.specs.Prelude.{ℕ, List, [], ◌∷◌, ◌++◌, length, drop, codes, bytes_eq, Bool, true, false, ◌||◌, ◌&&◌, if◌then◌else◌, Option, Some, None}
+use Rattle.std.specs.Prelude.{ℕ, List, [], ◌∷◌, ◌++◌, length, drop, codes, bytes_eq, Bool, false, ◌||◌, ◌&&◌, if◌then◌else◌, Option, Some, None}
 use Rattle.workflow_file.specs.declared.fault.Lack.{Lack}
 use Rattle.workflow_file.specs.declared.fault.Lack.TheVariants as lack
 use Rattle.workflow_file.specs.declared.raw.Inputs.{Inputs}

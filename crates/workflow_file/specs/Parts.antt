@@ -1,5 +1,7 @@
 -- How the keys of a table are read: each value by its rule, or the fault at its place.
 use Rattle.std.specs.Prelude.{ℕ, ◌+◌, List, [], ◌∷◌, length, Bool, true, false, nat_lt, if◌then◌else◌, Option, Some, None, Result, Ok, Err}
+use Rattle.std.specs.Ordering.{nat_cmp, is_lt}
+use Rattle.std.specs.Cmp.Lexicographic.{slice_cmp}
 use Rattle.toml.specs.Data.{Data, string, array, table, Items, no_items, item, Members, no_members, member, get_member}
 use Rattle.tuple_schema.specs.Stops.{◌>>=◌}
 use Rattle.workflow_file.specs.declared.fault.Section.{Section}
@@ -84,10 +86,16 @@ tables_in least most part key d = do
   ds ← items_in least most part key d
   each (table_in part key) 1 ds
 
--- the first key beside the known ones; the keys of a table ascend by their bytes, so it is the least
+-- the lesser by its bytes of a key and of another, if there is one
+abbrev pub lesser : List ℕ → Option (List ℕ) → List ℕ
+lesser key None = key
+lesser key (Some other) = if is_lt (slice_cmp nat_cmp other key) then other else key
+
+-- the least key by its bytes beside the known ones
 unfoldable pub other_key : List (List ℕ) → Members → Option (List ℕ)
 other_key known no_members = None
-other_key known (member key d ms) = if is_among known key then other_key known ms else Some key
+other_key known (member key d ms) =
+    if is_among known key then other_key known ms else Some (lesser key (other_key known ms))
 
 -- the key as it stands in a place: a key that is longer than a text may be stands there as the empty text
 abbrev pub key_of : List ℕ → List ℕ

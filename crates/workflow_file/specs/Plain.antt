@@ -1,7 +1,6 @@
 -- Plain flows: a single source, whose rows are loaded as they are.
-use Rattle.std.specs.Prelude.{ℕ, List, [], ◌∷◌, map, codes, bytes_eq, Bool, false, ◌&&◌, is_none, if◌then◌else◌, Option, Some, None, Result, Ok, Err, option_and_then, ◌≡◌}
+use Rattle.std.specs.Prelude.{ℕ, List, [], ◌∷◌, map, codes, bytes_eq, Bool, false, ◌&&◌, is_none, if◌then◌else◌, Option, Some, None, ◌≡◌}
 use Rattle.std.specs.List.{list_all}
-use Rattle.std.specs.Result.{result_ok}
 use Rattle.tuple_schema.specs.declared.schema.Column.{Column}
 use Rattle.tuple_schema.specs.declared.schema.ColumnKind.TheVariants as kind
 use Rattle.tuple_schema.specs.Schemas.{are_distinct}

@@ -10,6 +10,7 @@
 
 mod fault;
 mod flow;
+mod keys;
 mod node;
 mod part;
 mod plain;

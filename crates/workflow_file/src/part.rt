@@ -10,6 +10,7 @@ ghost use Rattle.workflow_file.specs.Views.{lack_by, part_of};
 ghost use Rattle.workflow_file.specs.Parts.{lacks, each, text_in, table_in, count_lack, items_in, texts_in, tables_in, other_key, no_other, text_at, texts_between, texts_at, table_at, tables_at, text_if, texts_if, tables_if, text_among, texts_among};
 
 use crate::fault::{FlowFault, Lack, Place, Section};
+use crate::keys::{is_known, other_key};
 use crate::rule::Rule;
 use std::alloc::Global;
 use toml::value::Array;
@@ -137,6 +138,7 @@ impl<'a> Part<'a> {
         }
         Ok(items)
     }
+
     // Reads each of the values as an item of the key.
     fn each_text(
         &self,
@@ -359,8 +361,8 @@ impl<'a> Part<'a> {
         }
     }
 
+    /// Refuses the least key beside the known ones.
     #[tactic(auto, unfolding(crate::specs::Parts::no_other))]
-    /// Refuses a key beside the known ones.
     pub fn only(&self, alloc: Global, known: &[&str]) -> Result<(), Stop<FlowFault>>
         ensures { Gives result (no_other (part_of self.now) (map (λ k. k.now) known.now)) }
     {
@@ -372,30 +374,4 @@ impl<'a> Part<'a> {
             }
         }
     }
-}
-
-// The least key beside the known ones.
-fn other_key<'t>(table: &'t Table, known: &[&str]) -> Option<&'t str>
-    ensures { option_copied result ≡ other_key (map (λ k. k.now) known.now) (table_view table.now) }
-{
-    let key = first_other(table, known)?;
-    Some(key.as_str())
-}
-
-fn first_other<'t>(table: &'t Table, known: &[&str]) -> Option<&'t String>
-    ensures { option_copied result ≡ find (λ k. not (is_among (map (λ n. n.now) known.now) (string_bytes k))) (keys table.now) }
-{
-    table.keys().find(|key| !is_known(known, key.as_str()))
-}
-
-fn is_known(known: &[&str], key: &str) -> bool
-    ensures { result ≡ is_among (map (λ k. k.now) known.now) key.now }
-{
-    is_any(known, key)
-}
-
-fn is_any(words: &[&str], text: &str) -> bool
-    ensures { result ≡ list_any (λ word. bytes_eq text.now word.now) words.now }
-{
-    words.iter().any(|word| text == *word)
 }
