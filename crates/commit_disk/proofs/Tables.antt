@@ -10,11 +10,11 @@ use Rattle.commit_disk.specs.Journal.{Commits, Ends}
 use Rattle.commit_disk.specs.Gate.{OpensGate, HasClosedGate}
 use Rattle.commit_disk.proofs.Buffers.{length-rows_block}
 
-length-head : (text : List ℕ) → length (head text) ≡ 15 + length text
+pub length-head : (text : List ℕ) → length (head text) ≡ 15 + length text
 unfolding head
 length-head text = omega arith
 
-length-end_block : length end_block ≡ 9
+pub length-end_block : length end_block ≡ 9
 unfolding end_block
 length-end_block = refl
 
@@ -24,13 +24,13 @@ front-new text = simp append-nil
 last_moved : (first middle last : List ℕ) → first ++ (middle ++ (last ++ [])) ++ [] ≡ first ++ middle ++ [] ++ last
 last_moved first middle last = simp (append-nil, append_assoc)
 
-front-push : (text : List ℕ) (blocks : List Stored) (block : Stored) → front text (blocks ++ block ∷ []) false ≡ front text blocks false ++ opened (rows_block block)
+pub front-push : (text : List ℕ) (blocks : List Stored) (block : Stored) → front text (blocks ++ block ∷ []) false ≡ front text blocks false ++ opened (rows_block block)
 front-push text blocks block =
     let block_bytes = λ (b : Stored). opened (rows_block b) in
     ap (λ (l : List ℕ). opened (head text) ++ l ++ []) (flat_map-append block_bytes blocks (block ∷ []))
     ∙ last_moved (opened (head text)) (flat_map block_bytes blocks) (block_bytes block)
 
-front-ended : (text : List ℕ) (blocks : List Stored) → front text blocks true ≡ front text blocks false ++ opened end_block
+pub front-ended : (text : List ℕ) (blocks : List Stored) → front text blocks true ≡ front text blocks false ++ opened end_block
 front-ended text blocks =
     ap (λ (l : List ℕ). l ++ opened end_block) (sym (append-nil (opened (head text) ++ flat_map (λ block. opened (rows_block block)) blocks)))
 

@@ -1,13 +1,14 @@
 // The journal of a table: where its gates are, and the calls that add to it.
-ghost use Rattle.std.specs.Prelude.{◌≡◌, ◌≤◌, ◌<◌, ◌+◌, ◌^◌, ◌↔◌, [], ◌∷◌, ◌++◌, List, length, vec_len, IsTrue, IsErrOf, IfOk, OnOk, OnErr, false};
+ghost use Rattle.std.specs.Prelude.{◌≡◌, ◌≤◌, ◌<◌, ◌+◌, ◌^◌, ◌↔◌, [], ◌∷◌, ◌++◌, ℕ, List, length, vec_len, IsTrue, IsErrOf, IfOk, OnOk, OnErr, true, false};
 ghost use Rattle.outside.specs.Counts.{HasCause, Rose};
 ghost use Rattle.tuple_schema.specs.Stops.{IfFault};
 ghost use Rattle.tuple_schema.specs.declared.memory.Stop.TheVariants as stop;
-ghost use Rattle.commit_disk.specs.Table.{HoldsUpTo, IsNotMade, head};
+ghost use Rattle.commit_disk.specs.Table.{Stored, Holds, HoldsUpTo, IsNotMade, head};
 ghost use Rattle.commit_disk.specs.Journal.{new_journal, after_block, after_end, Commits, Ends};
+ghost use Rattle.commit_disk.specs.Crashes.{IsSettled, LeftBetween, Each, GoesOn, IsEmptyOrNotMade, LeavesWhole, LeavesEnd, Grows, PassesOver};
 
-use crate::Block;
 use crate::gate::{CLOSED, MADE_GATE, close_made_gate, open_gate};
+use crate::{Block, MAX_ROWS};
 use outside::{Disk, Failed, MAX_SIZE};
 use std::alloc::Global;
 use std::marker::Model;
@@ -82,6 +83,39 @@ impl Journal {
         self.sound
     }
 
+    // The journal of a table whose first gate is at this place, before its blocks are read.
+    pub(crate) fn new(first: u64) -> Journal
+        requires { first < 2 ^ 48 }
+        ensures { result ≡ record { first = first; gate = first; count = 0; ended = false; sound = true } }
+    {
+        Journal {
+            first,
+            gate: first,
+            count: 0,
+            ended: false,
+            sound: true,
+        }
+    }
+
+    // Goes on behind a block of rows.
+    pub(crate) fn pass_rows(&mut self, count: u32, len: u32)
+        requires few { count ≤ MAX_ROWS }
+        requires room { self.old.gate + 10 + len < 2 ^ 48 }
+        ensures { self.new ≡ record self.old { gate = self.old.gate + 10 + len; count = self.old.count + count } }
+    {
+        self.gate += END.len() as u64 + len as u64;
+        self.count += count as u64;
+    }
+
+    // Goes on behind the end block.
+    pub(crate) fn pass_end(&mut self)
+        requires { self.old.gate + 10 < 2 ^ 48 }
+        ensures { self.new ≡ after_end self.old }
+    {
+        self.gate += END.len() as u64;
+        self.ended = true;
+    }
+
     /// Commits a block: at Ok the table has it behind the others. At Err attach the table again.
     pub fn commit<K: Disk>(&mut self, disk: &mut K, block: &Block) -> Result<(), Failed>
         requires sound { IsTrue self.old.sound }
@@ -94,6 +128,15 @@ impl Journal {
         ensures done { OnOk result (IsTrue (K.honest disk.old)
             → Commits self.old.gate self.new.gate block.now (K.seen disk.old) (K.seen disk.new)) }
         ensures len { OnOk result (self.new.gate < K.len disk.new) }
+
+        ensures settled { OnOk result (IsTrue (K.honest disk.old) → IsSettled (K.seen disk.new) (K.may_leave disk.new)) }
+        // A crash at any moment of the call leaves the blocks from before it, or those and this one whole.
+        ensures any_moment { IsTrue (K.honest disk.old) → IsSettled (K.seen disk.old) (K.may_leave disk.old)
+            → LeavesWhole self.old.gate block.now (K.seen disk.old) (LeftBetween (K.clock disk.old) (K.clock disk.new) (K.left_at disk.new)) }
+        ensures grows { IsTrue (K.honest disk.old) → IsSettled (K.seen disk.old) (K.may_leave disk.old)
+            → (text : List ℕ) (blocks : List Stored) → HoldsUpTo self.old.gate (K.seen disk.old) text blocks false
+            → Grows text (K.clock disk.old) (K.clock disk.new) (K.left_at disk.new) }
+        ensures time { IsTrue (K.honest disk.old) → GoesOn (K.clock disk.old) (K.clock disk.new) (K.left_at disk.old) (K.left_at disk.new) }
 
         ensures unsound { OnErr result (self.new ≡ record self.old { sound = false }) }
         ensures honest { K.honest disk.new ≡ K.honest disk.old }
@@ -118,6 +161,15 @@ impl Journal {
         ensures done { OnOk result (IsTrue (K.honest disk.old)
             → Ends self.old.gate self.new.gate (K.seen disk.old) (K.seen disk.new)) }
         ensures len { OnOk result (self.new.gate < K.len disk.new) }
+
+        ensures settled { OnOk result (IsTrue (K.honest disk.old) → IsSettled (K.seen disk.new) (K.may_leave disk.new)) }
+        // A crash at any moment of the call leaves the blocks from before it, ended or not.
+        ensures any_moment { IsTrue (K.honest disk.old) → IsSettled (K.seen disk.old) (K.may_leave disk.old)
+            → LeavesEnd self.old.gate (K.seen disk.old) (LeftBetween (K.clock disk.old) (K.clock disk.new) (K.left_at disk.new)) }
+        ensures grows { IsTrue (K.honest disk.old) → IsSettled (K.seen disk.old) (K.may_leave disk.old)
+            → (text : List ℕ) (blocks : List Stored) → HoldsUpTo self.old.gate (K.seen disk.old) text blocks false
+            → Grows text (K.clock disk.old) (K.clock disk.new) (K.left_at disk.new) }
+        ensures time { IsTrue (K.honest disk.old) → GoesOn (K.clock disk.old) (K.clock disk.new) (K.left_at disk.old) (K.left_at disk.new) }
 
         ensures unsound { OnErr result (self.new ≡ record self.old { sound = false }) }
         ensures honest { K.honest disk.new ≡ K.honest disk.old }
@@ -149,14 +201,21 @@ pub fn make<K: Disk>(alloc: Global, disk: &mut K, text: &[u8]) -> Result<Journal
         → HoldsUpTo journal.gate (K.seen disk.new) text.now [] false) }
     ensures len { IfOk result (λ journal. journal.gate < K.len disk.new) }
 
+    ensures settled { OnOk result (IsTrue (K.honest disk.old) → IsSettled (K.seen disk.new) (K.may_leave disk.new)) }
+    // A crash at any moment of the call leaves no table yet, or this one.
+    ensures any_moment { IsTrue (K.honest disk.old) → IsSettled (K.seen disk.old) (K.may_leave disk.old)
+        → Each (LeftBetween (K.clock disk.old) (K.clock disk.new) (K.left_at disk.new)) (IsEmptyOrNotMade text.now) }
+    ensures grows { IsTrue (K.honest disk.old) → IsSettled (K.seen disk.old) (K.may_leave disk.old)
+        → Grows text.now (K.clock disk.old) (K.clock disk.new) (K.left_at disk.new) }
+    ensures time { IsTrue (K.honest disk.old) → GoesOn (K.clock disk.old) (K.clock disk.new) (K.left_at disk.old) (K.left_at disk.new) }
+
     ensures memory { IsErrOf result stop.Memory → disk.new ≡ disk.old }
     ensures cause { IfFault result (λ _. Rose (K.faults disk.old) (K.faults disk.new)) }
     ensures later { K.faults disk.old ≤ K.faults disk.new }
     ensures honest { K.honest disk.new ≡ K.honest disk.old }
 {
     let behind = head_bytes(alloc, text)?;
-    close_made_gate(disk)?;
-    open_gate(disk, MADE_GATE, &behind)?;
+    write_head(disk, &behind)?;
     let first = behind.len() as u64;
     Ok(Journal {
         first,
@@ -165,6 +224,24 @@ pub fn make<K: Disk>(alloc: Global, disk: &mut K, text: &[u8]) -> Result<Journal
         ended: false,
         sound: true,
     })
+}
+
+// Writes a table whose head is behind the made gate, over a file that is no table.
+fn write_head<K: Disk>(disk: &mut K, behind: &[u8]) -> Result<(), Failed>
+    requires { 1 + length behind.now ≤ 2 ^ 48 }
+    ensures done { OnOk result (IsTrue (K.honest disk.old) → (text : List ℕ) → length text ≤ 65536 → behind.now ≡ head text ++ 0 ∷ []
+        → HoldsUpTo (16 + length text) (K.seen disk.new) text [] false) }
+    ensures len { OnOk result (length behind.now < K.len disk.new) }
+    ensures settled { OnOk result (IsTrue (K.honest disk.old) → IsSettled (K.seen disk.new) (K.may_leave disk.new)) }
+    ensures passes { IsTrue (K.honest disk.old) → IsSettled (K.seen disk.old) (K.may_leave disk.old) → IsNotMade (K.seen disk.old)
+        → (text : List ℕ) → length text ≤ 65536 → behind.now ≡ head text ++ 0 ∷ []
+        → PassesOver (K.clock disk.old) (K.clock disk.new) (K.left_at disk.new) IsNotMade (λ image. Holds image text [] false) }
+    ensures time { IsTrue (K.honest disk.old) → GoesOn (K.clock disk.old) (K.clock disk.new) (K.left_at disk.old) (K.left_at disk.new) }
+    ensures honest { K.honest disk.new ≡ K.honest disk.old }
+    ensures cause { HasCause (K.faults disk.old) (K.faults disk.new) result }
+{
+    close_made_gate(disk)?;
+    open_gate(disk, MADE_GATE, behind)
 }
 
 // What stands behind the made gate, and the first block's gate, closed.

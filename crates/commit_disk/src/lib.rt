@@ -1,21 +1,28 @@
 //! The table file: rows in blocks, each behind a gate byte that is opened last.
 //!
 //! Stands on `outside`, which has the disk. `table_read` reads the rows, `load_runner` commits them.
-//! Read `specs/Table.antt` first: `Holds` says which blocks a file stands for.
+//! Read `specs/Table.antt` first: `Holds` says which blocks a file stands for. Then read
+//! `specs/Crashes.antt`, which says what a crash leaves, and `specs/Attach.antt`, which says what
+//! `attach` answers of any bytes.
 //!
-//! Promised: after Ok of `make` the disk reads as a table of its text with no rows, after Ok of
-//! `Journal::commit` as the table from before with the block behind the others, and after Ok of
-//! `Journal::end` as that table, ended. A device fault is answered only where the disk failed.
-//! Not promised: what a crash within a call leaves, anything of a disk that isn't honest, or of
-//! two writers at one time.
+//! Promised of an honest disk on which nothing is pending: at every moment of `make` a crash leaves
+//! no table yet or the empty one, at every moment of `Journal::commit` the blocks from before, or
+//! those and the block whole, and at every moment of `Journal::end` the table from before, ended or
+//! not. After Ok nothing is pending, and a read gives the new table. A device fault is answered only
+//! where the disk failed.
+//! Not promised: anything of a disk that isn't honest, or of two writers at one time.
 #![tactic(auto)]
 
+mod attaching;
 mod block;
 mod gate;
 mod journal;
+mod laws;
 
+pub use attaching::{Attached, TableFault, attach};
 pub use block::{Block, FULL_BYTES, MAX_ROW_BYTES, MAX_ROWS};
 pub use journal::{Journal, MAX_FLOW_BYTES, fits, make};
+pub use laws::{holds_once, verdicts_agree};
 
 #[cfg(test)]
 mod tests;

@@ -1,0 +1,90 @@
+-- What the parts of attaching tell, head by head.
+use Rattle.std.specs.Prelude.{◌≡◌, ◌≢◌, ◌≤◌, ◌<◌, ◌+◌, ℕ, List, [], ◌∷◌, ◌++◌, length, slice_index, Bool, true, false, IsTrue, Option, Some, None, Result, Ok, Err}
+use Rattle.std.specs.Int.{w32, to_be_bytes}
+use Rattle.outside.specs.Counts.{Rose}
+use Rattle.outside.specs.Images.{SameImages}
+use Rattle.commit_disk.specs.declared.attaching.TableFault.{TableFault}
+use Rattle.commit_disk.specs.declared.attaching.TableFault.TheVariants.{Disk, NotATable, WorkflowDiffers}
+use Rattle.commit_disk.specs.declared.attaching.Attached.{Attached}
+use Rattle.commit_disk.specs.declared.attaching.BlockHead.{BlockHead}
+use Rattle.commit_disk.specs.declared.attaching.BlockHead.TheVariants.{Rows, End}
+use Rattle.commit_disk.specs.Table.{Stored, IsNotMade, end_block}
+use Rattle.commit_disk.specs.Journal.{JournalState}
+use Rattle.commit_disk.specs.Crashes.{GoesOn, NothingNew}
+use Rattle.commit_disk.specs.Attach.{LeadsTo, IsWrongAt, TellsOf, FindTells, FaultTells, rows_in}
+
+-- the disk was only read
+pub record OnlyRead {D : Type 0} (honest : D → Bool) (seen : D → List ℕ) (may_leave : D → List ℕ → Type 0) (clock : D → ℕ) (left_at : D → ℕ → List ℕ → Type 0) (old new : D) : Type 0 where
+  pub still_honest : honest new ≡ honest old
+  pub same_file : IsTrue (honest old) → seen new ≡ seen old
+  pub same_images : IsTrue (honest old) → SameImages (may_leave old) (may_leave new)
+  pub time : IsTrue (honest old) → GoesOn (clock old) (clock new) (left_at old) (left_at new)
+  pub nothing_new : IsTrue (honest old) → NothingNew (clock old) (clock new) (left_at new) (may_leave old)
+
+-- the count of faults has not fallen, and a fault of the disk was answered only where it rose
+pub record HasDiskCause {T : Type 0} (before now : ℕ) (result : Result T TableFault) : Type 0 where
+  pub later : before ≤ now
+  pub failed : result ≡ Err Disk → Rose before now
+
+-- a fault that is found in the frames
+abbrev pub FrameFaultTells : TableFault → List ℕ → Type 0
+FrameFaultTells Disk image = Unit {0}
+FrameFaultTells (NotATable place) image = IsWrongAt place image
+FrameFaultTells WorkflowDiffers image = ⊥
+
+-- what stands in the head: no table, or a flow text of so many bytes
+abbrev pub HeadTells : Result (Option ℕ) TableFault → List ℕ → Type 0
+HeadTells (Ok None) image = IsNotMade image
+HeadTells (Ok (Some len)) image = (text : List ℕ) × (length text ≡ len) × LeadsTo (16 + len) image text [] false
+HeadTells (Err fault) image = FrameFaultTells fault image
+
+-- what stands behind the gate of a block of so many rows in so many bytes, before the rows
+abbrev pub rows_head : ℕ → ℕ → List ℕ
+rows_head count len = 0 ∷ to_be_bytes w32 count ++ to_be_bytes w32 len
+
+-- the head of a block that may stand there, where so many bytes are left
+pub record IsRowsHead (room count len : ℕ) (behind : List ℕ) : Type 0 where
+  pub some : 1 ≤ count
+  pub few : count ≤ 4096
+  pub short : len < 4456640
+  pub fits : 11 + len ≤ room
+  pub spelled : behind ≡ rows_head count len
+
+pub record IsEndHead (room : ℕ) (behind : List ℕ) : Type 0 where
+  pub fits : 11 ≤ room
+  pub spelled : behind ≡ end_block
+
+-- which block begins with these bytes behind its gate
+abbrev pub BlockTells : Option BlockHead → ℕ → List ℕ → Type 0
+BlockTells None room behind = ((count len : ℕ) → IsRowsHead room count len behind → ⊥) × (IsEndHead room behind → ⊥)
+BlockTells (Some (Rows count len)) room behind = IsRowsHead room count len behind
+BlockTells (Some End) room behind = IsEndHead room behind
+
+-- the journal tells how far the blocks of a table of this text lead
+pub record IsOnTheWay (journal : JournalState) (image text : List ℕ) : Type 0 where
+  pub blocks : List Stored
+  pub leads : LeadsTo journal.gate image text blocks journal.ended
+  pub first : journal.first ≡ 16 + length text
+  pub counts : journal.count ≡ rows_in blocks
+  pub sound : journal.sound ≡ true
+
+-- one gate on, or at the first closed gate, or at a wrong one
+abbrev pub GateTells : Result Bool TableFault → JournalState → List ℕ → List ℕ → Type 0
+GateTells (Ok true) journal image text = IsOnTheWay journal image text
+GateTells (Ok false) journal image text = IsOnTheWay journal image text × (slice_index image journal.gate ≢ 1)
+GateTells (Err fault) journal image text = FrameFaultTells fault image
+
+-- whether the block at an open gate may be passed
+abbrev pub PassTells : Result (Unit {0}) TableFault → JournalState → List ℕ → List ℕ → Type 0
+PassTells (Ok _) journal image text = IsOnTheWay journal image text
+PassTells (Err fault) journal image text = FrameFaultTells fault image
+
+-- what the gates tell, from the first one on
+abbrev pub GatesTell : Result JournalState TableFault → List ℕ → List ℕ → Type 0
+GatesTell (Ok journal) image text = TellsOf journal image text
+GatesTell (Err fault) image text = FrameFaultTells fault image
+
+-- what is found in the file
+abbrev pub FoundTells : Result Attached TableFault → List ℕ → List ℕ → Type 0
+FoundTells (Ok found) image text = FindTells found image text
+FoundTells (Err fault) image text = FaultTells fault image text

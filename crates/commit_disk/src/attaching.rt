@@ -1,0 +1,323 @@
+// Attaching a table: its head and its gates are read, and none of its rows.
+ghost use Rattle.std.specs.Prelude.{◌≡◌, ◌≢◌, ◌≤◌, ◌<◌, ◌+◌, ◌^◌, ◌↔◌, [], ℕ, List, length, take, drop, min, slice_index, IsTrue, IsErrOf, IfOk, IfSome, OnOk, OnErr, false};
+ghost use Rattle.std.specs.Int.{w32, to_be_bytes, from_be_bytes};
+ghost use Rattle.outside.specs.Counts.{HasCause, Rose};
+ghost use Rattle.outside.specs.Disk.{Told};
+ghost use Rattle.tuple_schema.specs.Stops.{IfFault};
+ghost use Rattle.tuple_schema.specs.declared.memory.Stop.TheVariants as stop;
+ghost use Rattle.commit_disk.specs.declared.attaching.TableFault.TheVariants as fault;
+ghost use Rattle.commit_disk.specs.Attach.{LeadsTo, HasName, AttachTells, IsWithin};
+ghost use Rattle.commit_disk.specs.Crashes.{IsSettled, GoesOn, NothingNew};
+ghost use Rattle.commit_disk.specs.Frames.{OnlyRead, HasDiskCause, HeadTells, BlockTells, IsOnTheWay, PassTells, GateTells, GatesTell, FoundTells};
+
+use crate::gate::{CLOSED, MADE_GATE, OPEN};
+use crate::{FULL_BYTES, Journal, MAX_FLOW_BYTES, MAX_ROW_BYTES, MAX_ROWS};
+use outside::{Disk, Failed, MAX_SIZE};
+use std::alloc::Global;
+use tuple_schema::Stop;
+
+/// Why a table can't be attached.
+#[derive(Clone, Copy, Debug, PartialEq, Eq, Drop)]
+pub enum TableFault {
+    /// A call on the disk failed.
+    Disk,
+    /// The file is made and isn't a table: the first wrong field of the head is there, or the gate of the first wrong block.
+    NotATable { at: u64 },
+    /// The file is a table of another flow text.
+    WorkflowDiffers,
+}
+
+/// What attaching finds.
+#[derive(Debug, Drop)]
+pub enum Attached {
+    /// No table was made in the file, and it holds nothing.
+    NotMade,
+    /// The journal of the table.
+    Made(Journal),
+}
+
+impl From<Failed> for TableFault {
+    ghost from_gives = { λ _ e. e ≡ fault.Disk };
+
+    fn from(_: Failed) -> Self {
+        TableFault::Disk
+    }
+}
+
+impl From<TableFault> for Stop<TableFault> {
+    ghost from_gives = { λ f e. e ≡ stop.Fault f };
+
+    fn from(fault: TableFault) -> Self {
+        Stop::Fault(fault)
+    }
+}
+
+/// Attaches the table of this flow text. Where no memory is found, nothing is done.
+///
+/// Begins with a sync, so that what it reads is safe from a crash. Each gate and each block's head is read once, and no row.
+pub fn attach<K: Disk>(
+    alloc: Global,
+    disk: &mut K,
+    text: &[u8],
+) -> Result<Attached, Stop<TableFault>>
+    ensures tells { IsTrue (K.honest disk.old) → AttachTells result (K.seen disk.old) text.now }
+    ensures within { IfOk result (λ found. IsWithin found (K.len disk.new)) }
+    ensures settled { OnOk result (IsTrue (K.honest disk.old) → IsSettled (K.seen disk.new) (K.may_leave disk.new)) }
+    ensures same { OnOk result (IsTrue (K.honest disk.old) → K.seen disk.new ≡ K.seen disk.old) }
+
+    // A crash at any moment of the call leaves what one before it might have left.
+    ensures any_moment { IsTrue (K.honest disk.old) → NothingNew (K.clock disk.old) (K.clock disk.new) (K.left_at disk.new) (K.may_leave disk.old) }
+    ensures time { IsTrue (K.honest disk.old) → GoesOn (K.clock disk.old) (K.clock disk.new) (K.left_at disk.old) (K.left_at disk.new) }
+
+    ensures memory { IsErrOf result stop.Memory → disk.new ≡ disk.old }
+    ensures cause { IfFault result (λ found. found ≡ fault.Disk → Rose (K.faults disk.old) (K.faults disk.new)) }
+    ensures later { K.faults disk.old ≤ K.faults disk.new }
+    ensures honest { K.honest disk.new ≡ K.honest disk.old }
+{
+    let mut copy = text.to_vec(alloc)?;
+    Ok(settle_and_read(disk, text, &mut copy)?)
+}
+
+// The place of the flow text.
+const TEXT_PLACE: u64 = 16;
+
+const NAME: [u8; 7] = *b"WHTABLE";
+
+const VERSION: u32 = 1;
+
+// What stands behind a gate, before the rows.
+enum BlockHead {
+    Rows { count: u32, len: u32 },
+    End,
+}
+
+// The number that stands at that place.
+fn number_at(bytes: &[u8], at: usize) -> u32
+    requires { at + 4 ≤ length bytes.now }
+    ensures value { result ≡ from_be_bytes w32 (take 4 (drop at bytes.now)) }
+    ensures bytes { to_be_bytes w32 result ≡ take 4 (drop at bytes.now) }
+{
+    let mut number = [0; 4];
+    number.copy_from_slice(&bytes[at..at + 4]);
+    u32::from_be_bytes(number)
+}
+
+// Which block begins with these bytes, where so many bytes are left for it and the next gate.
+fn block_of(head: &[u8; 10], room: u64) -> Option<BlockHead>
+    ensures { BlockTells result room (drop 1 head.now) }
+{
+    let count = number_at(head, 2);
+    let len = number_at(head, 6);
+    if room < 11 || room - 11 < len as u64 {
+        return None;
+    }
+    match head[1] {
+        0 if 1 <= count && count <= MAX_ROWS && len < FULL_BYTES + MAX_ROW_BYTES => {
+            Some(BlockHead::Rows { count, len })
+        }
+        1 if count == 0 && len == 0 => Some(BlockHead::End),
+        _ => None,
+    }
+}
+
+fn has_name(head: &[u8; 16]) -> bool
+    ensures { IsTrue result ↔ HasName head.now }
+{
+    &head[1..8] == NAME.as_slice()
+}
+
+// The length of the flow text in the head of a file, or None where no table is made there.
+fn text_len_of(head: &[u8; 16], size: u64) -> Result<Option<u32>, TableFault>
+    requires { 17 ≤ size }
+    ensures tells { (image : List ℕ) → head.now ≡ take 16 image → size ≡ length image → HeadTells result image }
+    ensures fits { IfOk result (λ len. IfSome len (λ n. (17 + n ≤ size) × (n ≤ MAX_FLOW_BYTES))) }
+    ensures no_disk { result ≢ Err fault.Disk }
+{
+    if head[0] != OPEN {
+        return Ok(None);
+    }
+    if !has_name(head) {
+        return Err(TableFault::NotATable { at: 1 });
+    }
+    if number_at(head, 8) != VERSION {
+        return Err(TableFault::NotATable { at: 8 });
+    }
+    let len = number_at(head, 12);
+    if len > MAX_FLOW_BYTES || size - 17 < len as u64 {
+        return Err(TableFault::NotATable { at: 12 });
+    }
+    Ok(Some(len))
+}
+
+// Goes on behind the block at an open gate, of which the first bytes are given, where so many bytes are left.
+fn pass_block(journal: &mut Journal, head: &[u8; 10], room: u64) -> Result<(), TableFault>
+    requires { journal.old.gate + room ≤ 2 ^ 48 }
+    ensures tells { (image : List ℕ) (text : List ℕ) → (10 ≤ room → head.now ≡ take 10 (drop journal.old.gate image))
+        → slice_index image journal.old.gate ≡ 1 → journal.old.gate + room ≡ min (length image) (2 ^ 48)
+        → IsOnTheWay journal.old image text → PassTells result journal.new image text }
+    ensures onward { OnOk result (journal.old.gate < journal.new.gate) }
+    ensures within { OnOk result (journal.new.gate < journal.old.gate + room) }
+    ensures no_disk { result ≢ Err fault.Disk }
+{
+    let at = journal.gate();
+    if journal.ended() {
+        return Err(TableFault::NotATable { at });
+    }
+    match block_of(head, room) {
+        Some(BlockHead::Rows { count, len }) => journal.pass_rows(count, len),
+        Some(BlockHead::End) => journal.pass_end(),
+        None => return Err(TableFault::NotATable { at }),
+    }
+    Ok(())
+}
+
+// Reads the first bytes of a block, as many as there are.
+fn read_block_head<K: Disk>(disk: &mut K, gate: u64, size: u64) -> Result<[u8; 10], Failed>
+    requires within { gate < size }
+    requires len { size ≤ K.len disk.old }
+    ensures gate { IfOk result (λ head. IsTrue (K.honest disk.old) → size ≡ length (K.seen disk.old)
+        → slice_index head 0 ≡ slice_index (K.seen disk.old) gate) }
+    ensures bytes { IfOk result (λ head. IsTrue (K.honest disk.old) → size ≡ length (K.seen disk.old)
+        → gate + 10 ≤ size → head ≡ take 10 (drop gate (K.seen disk.old))) }
+    ensures read { OnlyRead K.honest K.seen K.may_leave K.clock K.left_at disk.old disk.new }
+    ensures len { K.len disk.new ≡ K.len disk.old }
+    ensures cause { HasCause (K.faults disk.old) (K.faults disk.new) result }
+{
+    let mut head = [CLOSED; 10];
+    let len = (size - gate).min(10) as usize;
+    disk.read_at(gate, &mut head[..len])?;
+    Ok(head)
+}
+
+// Goes on from a gate to the next, where it is open. Answers whether it was.
+fn pass_gate<K: Disk>(disk: &mut K, size: u64, journal: &mut Journal) -> Result<bool, TableFault>
+    requires within { journal.old.gate < size }
+    requires len { size ≤ K.len disk.old }
+    ensures tells { IsTrue (K.honest disk.old) → size ≡ length (K.seen disk.old)
+        → (text : List ℕ) → IsOnTheWay journal.old (K.seen disk.old) text → GateTells result journal.new (K.seen disk.old) text }
+    ensures within { OnOk result (journal.new.gate < size) }
+    ensures onward { IfOk result (λ passed. IsTrue passed → journal.old.gate < journal.new.gate) }
+    ensures read { OnlyRead K.honest K.seen K.may_leave K.clock K.left_at disk.old disk.new }
+    ensures len { K.len disk.new ≡ K.len disk.old }
+    ensures cause { HasDiskCause (K.faults disk.old) (K.faults disk.new) result }
+{
+    let gate = journal.gate();
+    let head = read_block_head(disk, gate, size)?;
+    if head[0] != OPEN {
+        return Ok(false);
+    }
+    match pass_block(journal, &head, size.min(MAX_SIZE) - gate) {
+        Ok(()) => Ok(true),
+        Err(fault) => Err(fault),
+    }
+}
+
+// Reads the gates of a table, from the first one on.
+fn read_gates<K: Disk>(disk: &mut K, size: u64, first: u64) -> Result<Journal, TableFault>
+    requires within { first < size }
+    requires room { first < 2 ^ 48 }
+    requires len { size ≤ K.len disk.old }
+    ensures tells { IsTrue (K.honest disk.old) → size ≡ length (K.seen disk.old)
+        → (text : List ℕ) → first ≡ 16 + length text → LeadsTo first (K.seen disk.old) text [] false → GatesTell result (K.seen disk.old) text }
+    ensures within { IfOk result (λ journal. journal.gate < size) }
+    ensures read { OnlyRead K.honest K.seen K.may_leave K.clock K.left_at disk.old disk.new }
+    ensures len { K.len disk.new ≡ K.len disk.old }
+    ensures cause { HasDiskCause (K.faults disk.old) (K.faults disk.new) result }
+{
+    let mut journal = Journal::new(first);
+    while pass_gate(disk, size, &mut journal)? {}
+    Ok(journal)
+}
+
+// Reads the head. Answers the length of its flow text, or None where no table is made.
+fn read_head<K: Disk>(disk: &mut K, size: u64) -> Result<Option<u32>, TableFault>
+    requires { size ≤ K.len disk.old }
+    ensures tells { IsTrue (K.honest disk.old) → size ≡ length (K.seen disk.old) → HeadTells result (K.seen disk.old) }
+    ensures fits { IfOk result (λ len. IfSome len (λ n. (17 + n ≤ size) × (n ≤ MAX_FLOW_BYTES))) }
+    ensures read { OnlyRead K.honest K.seen K.may_leave K.clock K.left_at disk.old disk.new }
+    ensures len { K.len disk.new ≡ K.len disk.old }
+    ensures cause { HasDiskCause (K.faults disk.old) (K.faults disk.new) result }
+{
+    if size < 17 {
+        return Ok(None);
+    }
+    let mut head = [0; 16];
+    disk.read_at(MADE_GATE, &mut head)?;
+    text_len_of(&head, size)
+}
+
+// Whether the flow text in the head, of so many bytes, is this one, of which a copy is read over.
+fn has_text<K: Disk>(disk: &mut K, len: u32, text: &[u8], copy: &mut [u8]) -> Result<bool, Failed>
+    requires copy { length copy.old ≡ length text.now }
+    requires len { 16 + len ≤ K.len disk.old }
+    ensures same { IfOk result (λ same. IsTrue (K.honest disk.old) → 16 + len ≤ length (K.seen disk.old)
+        → IsTrue same ↔ (take len (drop 16 (K.seen disk.old)) ≡ text.now)) }
+    ensures read { OnlyRead K.honest K.seen K.may_leave K.clock K.left_at disk.old disk.new }
+    ensures len { K.len disk.new ≡ K.len disk.old }
+    ensures cause { HasCause (K.faults disk.old) (K.faults disk.new) result }
+{
+    if len as usize != text.len() {
+        return Ok(false);
+    }
+    disk.read_at(TEXT_PLACE, copy)?;
+    Ok(&*copy == text)
+}
+
+// Makes all that was written safe, and tells the file's length.
+fn settled_size<K: Disk>(disk: &mut K) -> Result<u64, Failed>
+    ensures told { IfOk result (λ size. Told (K.honest disk.old) (K.seen disk.new) (K.len disk.new) size) }
+    ensures settled { OnOk result (IsTrue (K.honest disk.old) → IsSettled (K.seen disk.new) (K.may_leave disk.new)) }
+    ensures same { OnOk result (IsTrue (K.honest disk.old) → K.seen disk.new ≡ K.seen disk.old) }
+    ensures nothing_new { IsTrue (K.honest disk.old) → NothingNew (K.clock disk.old) (K.clock disk.new) (K.left_at disk.new) (K.may_leave disk.old) }
+    ensures time { IsTrue (K.honest disk.old) → GoesOn (K.clock disk.old) (K.clock disk.new) (K.left_at disk.old) (K.left_at disk.new) }
+    ensures honest { K.honest disk.new ≡ K.honest disk.old }
+    ensures cause { HasCause (K.faults disk.old) (K.faults disk.new) result }
+{
+    disk.sync()?;
+    disk.size()
+}
+
+// Reads the file's head, gates and flow text, with a copy of the text to read over.
+fn read_table<K: Disk>(
+    disk: &mut K,
+    size: u64,
+    text: &[u8],
+    copy: &mut [u8],
+) -> Result<Attached, TableFault>
+    requires copy { length copy.old ≡ length text.now }
+    requires len { size ≤ K.len disk.old }
+    ensures tells { IsTrue (K.honest disk.old) → size ≡ length (K.seen disk.old) → FoundTells result (K.seen disk.old) text.now }
+    ensures within { IfOk result (λ found. IsWithin found size) }
+    ensures read { OnlyRead K.honest K.seen K.may_leave K.clock K.left_at disk.old disk.new }
+    ensures len { K.len disk.new ≡ K.len disk.old }
+    ensures cause { HasDiskCause (K.faults disk.old) (K.faults disk.new) result }
+{
+    let Some(len) = read_head(disk, size)? else {
+        return Ok(Attached::NotMade);
+    };
+    let journal = read_gates(disk, size, TEXT_PLACE + len as u64)?;
+    if !has_text(disk, len, text, copy)? {
+        return Err(TableFault::WorkflowDiffers);
+    }
+    Ok(Attached::Made(journal))
+}
+
+// Makes all that was written safe, and then reads.
+fn settle_and_read<K: Disk>(
+    disk: &mut K,
+    text: &[u8],
+    copy: &mut [u8],
+) -> Result<Attached, TableFault>
+    requires { length copy.old ≡ length text.now }
+    ensures tells { IsTrue (K.honest disk.old) → FoundTells result (K.seen disk.old) text.now }
+    ensures within { IfOk result (λ found. IsWithin found (K.len disk.new)) }
+    ensures settled { OnOk result (IsTrue (K.honest disk.old) → IsSettled (K.seen disk.new) (K.may_leave disk.new)) }
+    ensures same { OnOk result (IsTrue (K.honest disk.old) → K.seen disk.new ≡ K.seen disk.old) }
+    ensures nothing_new { IsTrue (K.honest disk.old) → NothingNew (K.clock disk.old) (K.clock disk.new) (K.left_at disk.new) (K.may_leave disk.old) }
+    ensures time { IsTrue (K.honest disk.old) → GoesOn (K.clock disk.old) (K.clock disk.new) (K.left_at disk.old) (K.left_at disk.new) }
+    ensures honest { K.honest disk.new ≡ K.honest disk.old }
+    ensures cause { HasDiskCause (K.faults disk.old) (K.faults disk.new) result }
+{
+    let size = settled_size(disk)?;
+    read_table(disk, size, text, copy)
+}
