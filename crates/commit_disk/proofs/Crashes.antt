@@ -7,7 +7,8 @@ use Rattle.outside.specs.Images.{Torn}
 use Rattle.commit_disk.specs.Table.{Stored, IsStored, Holds, HoldsUpTo, IsNotMade, front, head, opened, rows_block, end_block}
 use Rattle.commit_disk.specs.Buffer.{behind_gate}
 use Rattle.commit_disk.specs.Gate.{HasClosedGate, HasClosedGateAt, KeepsClosed, OpensGate}
-use Rattle.commit_disk.specs.Crashes.{Grows, PassesOver}
+use Rattle.commit_disk.specs.Crashes.{Grows}
+use Rattle.commit_disk.specs.Passing.{PassesOver}
 use Rattle.commit_disk.proofs.Tables.{commits, ends, made, length-head}
 use Rattle.commit_disk.proofs.Moments.{in_words}
 use Rattle.commit_disk.proofs.Once.{once}

@@ -12,15 +12,24 @@ use Rattle.commit_disk.specs.Frames.{rows_head, IsRowsHead, IsEndHead, IsOnTheWa
 use Rattle.commit_disk.proofs.Buffers.{length-rows_block}
 use Rattle.commit_disk.proofs.Tables.{front-push, front-ended, length-end_block}
 
+-- the front ends at the gate
+pub leads_at : (place : ℕ) (image text : List ℕ) (blocks : List Stored) (ended : Bool) → LeadsTo place image text blocks ended → length (front text blocks ended) ≡ place
+leads_at place image text blocks ended leads = sym (ap length leads.spelled) ∙ length-take-le place image (omega (arith, leads.gate))
+
+-- and behind it stand the gate and the rest of the image
+pub leads_spelled : (place : ℕ) (image text : List ℕ) (blocks : List Stored) (ended : Bool) → LeadsTo place image text blocks ended → image ≡ front text blocks ended ++ get_or image place 0 ∷ drop (place + 1) image
+leads_spelled place image text blocks ended leads =
+    sym (take-append-drop place image) ∙ ap (λ (l : List ℕ). l ++ drop place image) leads.spelled ∙ ap (λ (l : List ℕ). front text blocks ended ++ l) (drop_more image place 0 leads.gate)
+
 -- a table that leads to a closed gate is held
 pub leads_holds : (place : ℕ) (image text : List ℕ) (blocks : List Stored) (ended : Bool) → LeadsTo place image text blocks ended → get_or image place 0 ≢ 1 → HoldsUpTo place image text blocks ended
 leads_holds place image text blocks ended leads shut =
-    let at : length (front text blocks ended) ≡ place = sym (ap length leads.spelled) ∙ length-take-le place image (omega (arith, leads.gate)) in
+    let at = leads_at place image text blocks ended leads in
     record {
       holds = record {
         gate = get_or image place 0;
         rest = drop (place + 1) image;
-        spelled = sym (take-append-drop place image) ∙ ap (λ (l : List ℕ). l ++ drop place image) leads.spelled ∙ ap (λ (l : List ℕ). front text blocks ended ++ l) (drop_more image place 0 leads.gate);
+        spelled = leads_spelled place image text blocks ended leads;
         closed = shut;
         short = leads.short;
         stored = leads.stored;
@@ -32,7 +41,7 @@ leads_holds place image text blocks ended leads shut =
 module _ (place room : ℕ) (image text bytes : List ℕ) (blocks : List Stored) (leads : LeadsTo place image text blocks false) (is_open : get_or image place 0 ≡ 1)
     (read : 10 ≤ room → bytes ≡ take 10 (drop place image)) (ends_at : place + room ≡ min (length image) (2 ^ 48)) where
   at : length (front text blocks false) ≡ place
-  at = sym (ap length leads.spelled) ∙ length-take-le place image (omega (arith, leads.gate))
+  at = leads_at place image text blocks false leads
 
   from_gate : drop place image ≡ 1 ∷ drop (place + 1) image
   from_gate = drop_more image place 0 leads.gate ∙ ap (λ (b : ℕ). b ∷ drop (place + 1) image) is_open

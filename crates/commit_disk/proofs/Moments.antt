@@ -2,7 +2,8 @@
 use Rattle.std.proofs.Common.{◌≡◌, ◌≤◌, ◌⊎◌, inl, inr, ⊎_elim, ℕ, List, sym, subst, ◌∙◌, arith, refl, Result, Ok, Err, OnOk, OnErr}
 use Rattle.std.proofs.lemmas.Bool.{cases_lt}
 use Rattle.outside.specs.Images.{Torn, AreTorn, SameImages, IsOnly, Ticks}
-use Rattle.commit_disk.specs.Crashes.{Each, GoesOn, PassesOver}
+use Rattle.commit_disk.specs.Crashes.{Each, GoesOn}
+use Rattle.commit_disk.specs.Passing.{PassesOver}
 
 -- a call
 pub ticked : (before now : ℕ) (left still : ℕ → List ℕ → Type 0) → Ticks before now left still → GoesOn before now left still

@@ -1,21 +1,38 @@
 -- Calls that only read a disk, one after the other.
-use Rattle.std.proofs.Common.{◌≤◌, ◌∙◌, inr, ℕ, List, Bool, IsTrue, refl, arith}
+use Rattle.std.proofs.Common.{◌≤◌, ◌∙◌, inl, inr, ⊎_elim, ℕ, List, Bool, IsTrue, refl, arith}
 use Rattle.outside.specs.Disk.{Kept}
 use Rattle.outside.specs.Images.{SameImages, Ticks}
 use Rattle.commit_disk.specs.Crashes.{GoesOn, NothingNew}
+use Rattle.commit_disk.specs.Passing.{PassesOver}
 use Rattle.commit_disk.specs.Frames.{OnlyRead}
 use Rattle.commit_disk.proofs.Moments.{same_call, pass_on, in_words, ticked, and_on}
+
+-- images that pass over from none leave nothing new, and the other way round
+passed_on : (first last : ℕ) (left_at : ℕ → List ℕ → Type 0) (before : List ℕ → Type 0) → PassesOver first last left_at (λ _. ⊥) before → NothingNew first last left_at before
+passed_on first last left_at before passes = record {
+  each = λ image it. ⊎_elim (λ none. absurd none) (λ was. was) (passes.either image it);
+  fewer = λ earlier later from le to image it. ⊎_elim (λ fewer. fewer image it) (λ none. absurd none.2) (passes.ordered earlier later from le to);
+}
+
+passing : (first last : ℕ) (left_at : ℕ → List ℕ → Type 0) (before : List ℕ → Type 0) → NothingNew first last left_at before → PassesOver first last left_at (λ _. ⊥) before
+passing first last left_at before nothing = record {
+  either = λ image it. inr (nothing.each image it);
+  ordered = λ earlier later from le to. inl (nothing.fewer earlier later from le to);
+}
 
 -- nothing new is left by a call that leaves only what could be left before
 pub nothing_new : (before now : ℕ) (left still : ℕ → List ℕ → Type 0) (was is : List ℕ → Type 0) → Ticks before now left still → SameImages (left before) was → SameImages (still now) is
     → ((image : List ℕ) → is image → was image) → NothingNew before now still was
-nothing_new before now left still was is ticks then here fewer = same_call (λ _. ⊥) was before now left still was is ticks then here (λ image it. inr it) fewer
+nothing_new before now left still was is ticks then here fewer =
+    passed_on before now still was (same_call (λ _. ⊥) was before now left still was is ticks then here (λ image it. inr it) fewer)
 
 -- nor by one call and then more
 pub nothing_new_on : (first middle last : ℕ) (left now : ℕ → List ℕ → Type 0) (was is : List ℕ → Type 0) → first ≤ middle → NothingNew first middle left was → GoesOn middle last left now → ((image : List ℕ) → is image → was image)
     → NothingNew middle last now is → NothingNew first last now was
 nothing_new_on first middle last left now was is later one goes fewer two =
-    pass_on (λ _. ⊥) was first middle last left now later one goes (in_words middle last now (λ _. ⊥) is (λ _. ⊥) was (λ image none. none) (λ image it. inr (fewer image it)) two)
+    passed_on first last now was
+    (pass_on (λ _. ⊥) was first middle last left now later (passing first middle left was one) goes
+    (in_words middle last now (λ _. ⊥) is (λ _. ⊥) was (λ image none. none) (λ image it. inr (fewer image it)) (passing middle last now is two)))
 
 module _ {D : Type 0} (honest : D → Bool) (seen : D → List ℕ) (may_leave : D → List ℕ → Type 0) (clock : D → ℕ) (left_at : D → ℕ → List ℕ → Type 0)
     (left_now : (disk : D) → IsTrue (honest disk) → SameImages (left_at disk (clock disk)) (may_leave disk)) where

@@ -1,8 +1,8 @@
 -- Of an image and a text there is one verdict.
-use Rattle.std.proofs.Common.{◌≡◌, ◌≢◌, ◌≤◌, ◌+◌, ◌⊎◌, inl, inr, ⊎_elim, ℕ, List, [], ◌∷◌, ◌++◌, length, get_or, take, drop, Bool, false, codes, ap, sym, subst, ◌∙◌, refl, arith, append_assoc, length-append, take-append-drop, All, Ok, Err, if◌then◌else◌}
+use Rattle.std.proofs.Common.{◌≡◌, ◌≢◌, ◌≤◌, ◌+◌, ◌⊎◌, inl, inr, ⊎_elim, ℕ, List, [], ◌∷◌, ◌++◌, length, get_or, take, drop, Bool, false, codes, ap, sym, subst, ◌∙◌, refl, arith, append_assoc, length-append, All, Ok, Err, if◌then◌else◌}
 use Rattle.std.specs.List.{flat_map}
 use Rattle.std.specs.Int.{w32, to_be_bytes}
-use Rattle.std.proofs.lemmas.List.{take_at, get_or_at, take-take, drop_more, get_or-take, length-take-le, append-nil}
+use Rattle.std.proofs.lemmas.List.{take_at, take-take, get_or-take, length-take-le, append-nil}
 use Rattle.std.proofs.lemmas.List.Elements.{All-take}
 use Rattle.std.proofs.lemmas.List.Concat.{flat_map-append}
 use Rattle.tuple_schema.specs.declared.memory.Stop.TheVariants.{Memory, Fault}
@@ -12,19 +12,13 @@ use Rattle.commit_disk.specs.Table.{Stored, IsStored, HoldsUpTo, IsNotMade, fron
 use Rattle.commit_disk.specs.Journal.{JournalState}
 use Rattle.commit_disk.specs.Attach.{LeadsTo, IsMade, HasName, HasVersion, IsWrongHead, IsStuck, IsWrongAt, TellsOf, VerdictsAgree, rows_in}
 use Rattle.commit_disk.proofs.Once.{Outgoes, compared}
-use Rattle.commit_disk.proofs.Crashes.{not_both}
+use Rattle.commit_disk.proofs.Crashes.{closed_gate, not_both}
+use Rattle.commit_disk.proofs.Leads.{leads_at, leads_spelled}
 use Rattle.commit_disk.proofs.Frames.{head_part, front-new, opened-head}
 
 -- the longest front, behind which stands a closed gate or nothing that leads on
 abbrev IsEnd : ℕ → List ℕ → List ℕ → List Stored → Bool → Type 0
 IsEnd place image text blocks ended = (get_or image place 0 ≢ 1) ⊎ IsStuck place image text blocks ended
-
-leads_at : (place : ℕ) (image text : List ℕ) (blocks : List Stored) (ended : Bool) → LeadsTo place image text blocks ended → length (front text blocks ended) ≡ place
-leads_at place image text blocks ended leads = sym (ap length leads.spelled) ∙ length-take-le place image (omega (arith, leads.gate))
-
-leads_spelled : (place : ℕ) (image text : List ℕ) (blocks : List Stored) (ended : Bool) → LeadsTo place image text blocks ended → image ≡ front text blocks ended ++ get_or image place 0 ∷ drop (place + 1) image
-leads_spelled place image text blocks ended leads =
-    sym (take-append-drop place image) ∙ ap (λ (l : List ℕ). l ++ drop place image) leads.spelled ∙ ap (λ (l : List ℕ). front text blocks ended ++ l) (drop_more image place 0 leads.gate)
 
 holds_leads : (place : ℕ) (image text : List ℕ) (blocks : List Stored) (ended : Bool) → HoldsUpTo place image text blocks ended → LeadsTo place image text blocks ended
 holds_leads place image text blocks ended held =
@@ -129,9 +123,7 @@ record HasEnd (place : ℕ) (image text : List ℕ) (blocks : List Stored) (ende
 
 from_held : (place : ℕ) (image text : List ℕ) (blocks : List Stored) (ended : Bool) → HoldsUpTo place image text blocks ended → (get_or image place 0 ≢ 1) × HasEnd place image text blocks ended
 from_held place image text blocks ended held =
-    let begins = front text blocks ended in
-    let byte : get_or image place 0 ≡ held.holds.gate = ap (λ (l : List ℕ). get_or l place 0) held.holds.spelled ∙ get_or_at begins held.holds.gate held.holds.rest 0 place held.at in
-    let shut : get_or image place 0 ≢ 1 = λ is. held.holds.closed (sym byte ∙ is) in
+    let shut = (closed_gate place image text blocks ended held).closed in
     (shut, record { leads = holds_leads place image text blocks ended held; end = inl shut })
 
 from_stuck : (place : ℕ) (image text : List ℕ) (blocks : List Stored) (ended : Bool) → IsStuck place image text blocks ended → HasEnd place image text blocks ended

@@ -59,13 +59,7 @@ pub record Grows (text : List ℕ) (first last : ℕ) (left_at : ℕ → List �
   pub keeps_end : (earlier later : ℕ) → first ≤ earlier → earlier ≤ later → later ≤ last
       → Each (left_at earlier) (IsEnded text) → Each (left_at later) (IsEnded text)
 
--- From the first of these moments to the last the images pass over from one fact to another: each has one of the two;
--- and of two moments the later leaves only what the earlier may leave, or the earlier may leave an image with the first fact.
-pub record PassesOver (first last : ℕ) (left_at : ℕ → List ℕ → Type 0) (Before After : List ℕ → Type 0) : Type 0 where
-  pub either : Each (LeftBetween first last left_at) (λ image. Before image ⊎ After image)
-  pub ordered : (earlier later : ℕ) → first ≤ earlier → earlier ≤ later → later ≤ last
-      → Each (left_at later) (left_at earlier) ⊎ ((image : List ℕ) × left_at earlier image × Before image)
-
 -- nothing new is left: each image of these moments is one of those from before, and a later moment leaves only what an earlier one may leave
-abbrev pub NothingNew : ℕ → ℕ → (ℕ → List ℕ → Type 0) → (List ℕ → Type 0) → Type 0
-NothingNew first last left_at before = PassesOver first last left_at (λ _. ⊥) before
+pub record NothingNew (first last : ℕ) (left_at : ℕ → List ℕ → Type 0) (before : List ℕ → Type 0) : Type 0 where
+  pub each : Each (LeftBetween first last left_at) before
+  pub fewer : (earlier later : ℕ) → first ≤ earlier → earlier ≤ later → later ≤ last → Each (left_at later) (left_at earlier)

@@ -11,6 +11,7 @@ ghost use Rattle.commit_disk.specs.Crashes.{IsSettled, GoesOn, NothingNew};
 ghost use Rattle.commit_disk.specs.Frames.{OnlyRead, HasDiskCause, HeadTells, BlockTells, IsOnTheWay, PassTells, GateTells, GatesTell, FoundTells};
 
 use crate::gate::{CLOSED, MADE_GATE, OPEN};
+use crate::journal::VERSION;
 use crate::{FULL_BYTES, Journal, MAX_FLOW_BYTES, MAX_ROW_BYTES, MAX_ROWS};
 use outside::{Disk, Failed, MAX_SIZE};
 use std::alloc::Global;
@@ -82,8 +83,6 @@ pub fn attach<K: Disk>(
 const TEXT_PLACE: u64 = 16;
 
 const NAME: [u8; 7] = *b"WHTABLE";
-
-const VERSION: u32 = 1;
 
 // What stands behind a gate, before the rows.
 enum BlockHead {

@@ -5,7 +5,8 @@ ghost use Rattle.outside.specs.Disk.{Kept, Wrote};
 ghost use Rattle.outside.specs.Images.{SameImages, Torn};
 ghost use Rattle.commit_disk.specs.Table.{IsNotMade};
 ghost use Rattle.commit_disk.specs.Gate.{HasClosedGate, HasClosedGateAt, KeepsClosed, OpensGate};
-ghost use Rattle.commit_disk.specs.Crashes.{IsSettled, GoesOn, PassesOver};
+ghost use Rattle.commit_disk.specs.Crashes.{IsSettled, GoesOn};
+ghost use Rattle.commit_disk.specs.Passing.{PassesOver};
 
 use outside::{Disk, Failed};
 

@@ -5,7 +5,8 @@ ghost use Rattle.tuple_schema.specs.Stops.{IfFault};
 ghost use Rattle.tuple_schema.specs.declared.memory.Stop.TheVariants as stop;
 ghost use Rattle.commit_disk.specs.Table.{Stored, Holds, HoldsUpTo, IsNotMade, head};
 ghost use Rattle.commit_disk.specs.Journal.{new_journal, after_block, after_end, Commits, Ends};
-ghost use Rattle.commit_disk.specs.Crashes.{IsSettled, LeftBetween, Each, GoesOn, IsEmptyOrNotMade, LeavesWhole, LeavesEnd, Grows, PassesOver};
+ghost use Rattle.commit_disk.specs.Crashes.{IsSettled, LeftBetween, Each, GoesOn, IsEmptyOrNotMade, LeavesWhole, LeavesEnd, Grows};
+ghost use Rattle.commit_disk.specs.Passing.{PassesOver};
 
 use crate::gate::{CLOSED, MADE_GATE, close_made_gate, open_gate};
 use crate::{Block, MAX_ROWS};
@@ -17,7 +18,7 @@ use tuple_schema::{Memory, Stop};
 /// The most bytes of a flow text.
 pub const MAX_FLOW_BYTES: u32 = 65_536;
 
-const VERSION: u32 = 1;
+pub(crate) const VERSION: u32 = 1;
 
 // Behind its gate stand the kind, the count of rows and their length, and the next gate.
 const END: [u8; 10] = [1, 0, 0, 0, 0, 0, 0, 0, 0, 0];
@@ -145,8 +146,7 @@ impl Journal {
         self.sound = false;
         open_gate(disk, self.gate, block.behind_gate())?;
         self.sound = true;
-        self.gate += block.behind_gate().len() as u64;
-        self.count += block.rows() as u64;
+        self.pass_rows(block.rows(), block.len());
         Ok(())
     }
 
@@ -178,8 +178,7 @@ impl Journal {
         self.sound = false;
         open_gate(disk, self.gate, &END)?;
         self.sound = true;
-        self.gate += END.len() as u64;
-        self.ended = true;
+        self.pass_end();
         Ok(())
     }
 }
@@ -216,14 +215,7 @@ pub fn make<K: Disk>(alloc: Global, disk: &mut K, text: &[u8]) -> Result<Journal
 {
     let behind = head_bytes(alloc, text)?;
     write_head(disk, &behind)?;
-    let first = behind.len() as u64;
-    Ok(Journal {
-        first,
-        gate: first,
-        count: 0,
-        ended: false,
-        sound: true,
-    })
+    Ok(Journal::new(behind.len() as u64))
 }
 
 // Writes a table whose head is behind the made gate, over a file that is no table.

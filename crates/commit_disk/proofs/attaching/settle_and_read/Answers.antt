@@ -1,4 +1,4 @@
-use Rattle.std.proofs.Common.{◌∙◌, ⊎_elim, ℕ, List, arith}
+use Rattle.std.proofs.Common.{◌∙◌, ℕ, List, arith}
 use Rattle.commit_disk.proofs.OnlyReads.{nothing_new_on}
 use Rattle.commit_disk.proofs.attaching.settle_and_read.Goals as goal
 
@@ -8,6 +8,5 @@ returns-clause-nothing_new g c = λ honest.
     let still = c.settled_size.ensures.honest ∙ honest in
     let later = (c.settled_size.ensures.time honest).later in
     let fewer = λ (image : List ℕ) (it : g.K.Disk.may_leave settled image).
-    ⊎_elim (λ none. absurd none) (λ was. was)
-    ((c.settled_size.ensures.nothing_new honest).either image (g.K.Disk.clock settled, later, omega arith, (g.met.K.Disk.left_now settled still image).1 it)) in
+    (c.settled_size.ensures.nothing_new honest).each image (g.K.Disk.clock settled, later, omega arith, (g.met.K.Disk.left_now settled still image).1 it) in
     nothing_new_on _ _ _ _ _ _ _ later (c.settled_size.ensures.nothing_new honest) (c.read_table.ensures.read.time still) fewer (c.read_table.ensures.read.nothing_new still)

@@ -13,7 +13,8 @@ returns-clause-done g c = λ honest.
     let gate : c.self.inside.gate ≡ c.args.self.now.gate = ap (λ (j : JournalState). j.gate) c.self.view_is in
     let Opens : ℕ → Type 0 = λ place. OpensGate place (behind_gate c.args.block.now) (g.K.Disk.seen c.args.disk.now) (g.K.Disk.seen c.open_gate.new.disk) in
     let opens = rw c.behind_gate.ensures.behind at (c.in_ok-open_gate.ensures.opened honest) in
-    commits _ _ _ _ c.args.block.now good (omega arith) (omega arith) (subst Opens gate opens)
+    let next = ap (λ (j : JournalState). j.gate) c.pass_rows.ensures in
+    commits _ _ _ _ c.args.block.now good (omega (arith, next)) (omega (arith, next)) (subst Opens gate opens)
 
 pub returns-in_err-open_gate-clause-any_moment : goal.returns-in_err-open_gate-clause-any_moment
 returns-in_err-open_gate-clause-any_moment g c = λ honest settled text blocks was.

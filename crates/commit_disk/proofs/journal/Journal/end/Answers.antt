@@ -12,7 +12,8 @@ unfolding end_block
 returns-clause-done g c = λ honest.
     let gate : c.self.inside.gate ≡ c.args.self.now.gate = ap (λ (j : JournalState). j.gate) c.self.view_is in
     let Opens : ℕ → Type 0 = λ place. OpensGate place (end_block ++ 0 ∷ []) (g.K.Disk.seen c.args.disk.now) (g.K.Disk.seen c.open_gate.new.disk) in
-    ends _ _ _ _ (omega arith) (omega arith) (subst Opens gate (c.in_ok-open_gate.ensures.opened honest))
+    let next = ap (λ (j : JournalState). j.gate) c.pass_end.ensures in
+    ends _ _ _ _ (omega (arith, next)) (omega (arith, next)) (subst Opens gate (c.in_ok-open_gate.ensures.opened honest))
 
 pub returns-in_err-open_gate-clause-any_moment : goal.returns-in_err-open_gate-clause-any_moment
 unfolding end_block
