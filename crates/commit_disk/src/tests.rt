@@ -1,11 +1,12 @@
 // Worked tables, and the calls that a disk gets.
 ghost use Rattle.commit_disk.specs.Table.{IsNotMade};
+ghost use Rattle.outside.specs.MemoryDisk.{seen_of};
 
 use crate::*;
-use outside::MemoryDisk;
+use outside::{MemoryDisk, Torn};
 use std::alloc::Global;
 use std::test::Fail;
-use tuple_schema::Memory;
+use tuple_schema::{Memory, Stop};
 
 // The flow text is `x`. One block has the rows `ab` and `c`, the next has the row `d`.
 const TABLE: [u8; 52] = *b"\x01WHTABLE\0\0\0\x01\0\0\0\x01x\
@@ -106,5 +107,182 @@ fn a_block_takes_its_last_row(rt: HostRuntime) -> Result<(), Fail> {
     }
     assert_eq!(rt; block.rows(), 4096);
     assert_eq!(rt; block.len(), 12288);
+    Ok(())
+}
+
+// What attaching tells of a file.
+#[derive(Clone, Copy, Debug, PartialEq, Eq)]
+enum Verdict {
+    NotMade,
+    Table { count: u64, ended: bool },
+    WrongAt(u64),
+    OtherFlow,
+}
+
+fn told(alloc: Global, disk: &mut MemoryDisk) -> Result<Verdict, Fail> {
+    match attach(alloc, disk, b"x") {
+        Ok(Attached::NotMade) => Ok(Verdict::NotMade),
+        Ok(Attached::Made(journal)) => Ok(Verdict::Table {
+            count: journal.count(),
+            ended: journal.ended(),
+        }),
+        Err(Stop::Fault(TableFault::NotATable { at })) => Ok(Verdict::WrongAt(at)),
+        Err(Stop::Fault(TableFault::WorkflowDiffers)) => Ok(Verdict::OtherFlow),
+        Err(_) => Err(Fail::new("a failure")),
+    }
+}
+
+fn told_of(alloc: Global, bytes: &[u8]) -> Result<Verdict, Fail> {
+    let mut disk = MemoryDisk::new(alloc, bytes)?;
+    told(alloc, &mut disk)
+}
+
+// What is told of the table with another byte at that place.
+fn told_with(alloc: Global, at: usize, byte: u8) -> Result<Verdict, Fail> {
+    let mut bytes = TABLE.to_vec(alloc)?;
+    if let Some(there) = bytes.get_mut(at) {
+        *there = byte;
+    }
+    told_of(alloc, &bytes)
+}
+
+// The gates stand at 17, 30, 41 and 51.
+#[test]
+fn every_front_of_a_table_has_its_answer(rt: HostRuntime) -> Result<(), Fail> {
+    let whole = Verdict::Table {
+        count: 3,
+        ended: true,
+    };
+    for len in 0..53usize {
+        let want = match len {
+            0..=16 => Verdict::NotMade,
+            17 => Verdict::WrongAt(12),
+            18..=30 => Verdict::WrongAt(17),
+            31..=41 => Verdict::WrongAt(30),
+            42..=51 => Verdict::WrongAt(41),
+            _ => whole,
+        };
+        let front = TABLE.get(..len).ok_or("too long")?;
+        assert_eq!(rt; told_of(rt.alloc(), front)?, want, "of {len} bytes");
+    }
+    Ok(())
+}
+
+#[test]
+fn a_gate_is_open_at_1_alone(rt: HostRuntime) -> Result<(), Fail> {
+    let alloc = rt.alloc();
+    let ended = |count, ended| Verdict::Table { count, ended };
+    for byte in 0..=255u8 {
+        let is_open = byte == 1;
+        for (gate, open, closed) in [
+            (0, ended(3, true), Verdict::NotMade),
+            (17, ended(3, true), ended(0, false)),
+            (30, ended(3, true), ended(2, false)),
+            (41, ended(3, true), ended(3, false)),
+            (51, Verdict::WrongAt(51), ended(3, true)),
+        ] {
+            let want = if is_open { open } else { closed };
+            assert_eq!(rt; told_with(alloc, gate, byte)?, want, "{byte} at {gate}");
+        }
+    }
+    Ok(())
+}
+
+#[test]
+fn the_first_wrong_place_is_told(rt: HostRuntime) -> Result<(), Fail> {
+    let alloc = rt.alloc();
+    for (at, byte, want) in [
+        (1, b'w', Verdict::WrongAt(1)),
+        (11, 2, Verdict::WrongAt(8)),
+        (8, 1, Verdict::WrongAt(8)),
+        (13, 1, Verdict::WrongAt(12)),
+        (15, 200, Verdict::WrongAt(12)),
+        (16, b'y', Verdict::OtherFlow),
+        (18, 2, Verdict::WrongAt(17)),
+        (22, 0, Verdict::WrongAt(17)),
+        (26, 200, Verdict::WrongAt(17)),
+        (33, 1, Verdict::WrongAt(30)),
+        (46, 1, Verdict::WrongAt(41)),
+        (50, 1, Verdict::WrongAt(41)),
+    ] {
+        assert_eq!(rt; told_with(alloc, at, byte)?, want, "{byte} at {at}");
+    }
+    Ok(())
+}
+
+// How many of four steps were acknowledged: the table made, its two blocks, its end.
+fn steps_done(alloc: Global, disk: &mut MemoryDisk) -> Result<u32, Memory>
+    requires { IsNotMade (seen_of disk.old) }
+{
+    let Ok(mut journal) = make(alloc, disk, b"x") else {
+        return Ok(0);
+    };
+    let mut block = Block::new(alloc)?;
+    block.add(b"ab");
+    block.add(b"c");
+    if journal.commit(disk, &block).is_err() {
+        return Ok(1);
+    }
+    block.clear();
+    block.add(b"d");
+    if journal.commit(disk, &block).is_err() {
+        return Ok(2);
+    }
+    if journal.end(disk).is_err() {
+        return Ok(3);
+    }
+    Ok(4)
+}
+
+// The steps that are acknowledged, and those that are found after a crash.
+fn steps_after_crash(alloc: Global, write: u64, torn: Torn) -> Result<(u32, u32), Fail> {
+    let mut disk = MemoryDisk::new(alloc, &[])?;
+    disk.stop_at_write(write, torn);
+    let done = steps_done(alloc, &mut disk)?;
+    let mut left = disk.crash()?;
+    let found = match told(alloc, &mut left)? {
+        Verdict::NotMade => 0,
+        Verdict::Table {
+            count: 0,
+            ended: false,
+        } => 1,
+        Verdict::Table {
+            count: 2,
+            ended: false,
+        } => 2,
+        Verdict::Table {
+            count: 3,
+            ended: false,
+        } => 3,
+        Verdict::Table {
+            count: 3,
+            ended: true,
+        } => 4,
+        _ => return Err(Fail::new("no table of these steps")),
+    };
+    Ok((done, found))
+}
+
+// The table takes three writes and each step two more; the last of each opens its gate.
+#[test]
+fn a_stop_at_any_write_leaves_whole_blocks(rt: HostRuntime) -> Result<(), Fail> {
+    for torn in [Torn::Nothing, Torn::All, Torn::Ones] {
+        let opened = if torn == Torn::Nothing { 0 } else { 1 };
+        for (write, done, more) in [
+            (1, 0, 0),
+            (2, 0, 0),
+            (3, 0, opened),
+            (4, 1, 0),
+            (5, 1, opened),
+            (6, 2, 0),
+            (7, 2, opened),
+            (8, 3, 0),
+            (9, 3, opened),
+            (10, 4, 0),
+        ] {
+            let steps = steps_after_crash(rt.alloc(), write, torn)?;
+            assert_eq!(rt; steps, (done, done + more), "at write {write}, {torn:?}");
+        }
+    }
     Ok(())
 }
