@@ -17,14 +17,16 @@ pub record Plain : Type 0 where
   pub file : List ℕ
   pub columns : List Column
 
+-- the same of the code's flow
 abbrev pub plain_of : PlainFlow → Plain
 plain_of p = record { name = p.name; file = p.file; columns = p.columns }
 
--- `NAME int`
+-- the rest of `NAME int`
 abbrev pub is_int : Option (List ℕ) → Bool
 is_int None = false
 is_int (Some word) = bytes_eq word (codes "int")
 
+-- `NAME int`
 abbrev pub is_int_column : List ℕ → Bool
 is_int_column text = is_int (rest_of text)
 
@@ -47,6 +49,7 @@ is_plain table source =
 abbrev pub have_names : List Column → Bool
 have_names columns = are_distinct (map (λ c. c.name) columns)
 
+-- the plain flow of a table and its one source
 abbrev pub plain_source : RawTable → RawSource → Option Plain
 plain_source table source =
     let columns = map int_column source.columns in
@@ -54,6 +57,7 @@ plain_source table source =
     then Some (record { name = source.name; file = source.file; columns = columns })
     else None
 
+-- one source, and no nodes
 abbrev pub plain_with : RawTable → List RawSource → List RawNode → Option Plain
 plain_with table (source ∷ []) [] = plain_source table source
 plain_with table sources nodes = None

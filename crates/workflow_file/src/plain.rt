@@ -1,8 +1,7 @@
 // Plain flows: a single source, whose rows are loaded as they are.
-ghost use Rattle.std.specs.Prelude.{◌≡◌, length, map, option_map, All, bytes_eq, IfOk, IfSome};
+ghost use Rattle.std.specs.Prelude.{◌≡◌, map, option_map, All, bytes_eq, IfOk, IfSome};
 ghost use Rattle.std.specs.List.{list_all, list_any};
-ghost use Rattle.tuple_schema.specs.Schemas.{are_distinct, IsSchema};
-ghost use Rattle.workflow_file.specs.Texts.{head_of};
+ghost use Rattle.tuple_schema.specs.Schemas.{are_distinct};
 ghost use Rattle.workflow_file.specs.Kept.{KeepsRules};
 ghost use Rattle.workflow_file.specs.Plain.{plain_of, plain_flow, is_plain, int_column, is_int_column, IsInt};
 
