@@ -1,13 +1,14 @@
 -- What the bytes of a head spell, and what leads on from a gate.
-use Rattle.std.proofs.Common.{◌≡◌, ◌≤◌, ◌<◌, ◌+◌, ◌^◌, ℕ, List, [], ◌∷◌, ◌++◌, length, get_or, take, drop, false, codes, ap, sym, ◌∙◌, refl, arith, append_assoc, length-drop, take-append-drop}
+use Rattle.std.proofs.Common.{◌≡◌, ◌≤◌, ◌<◌, ◌+◌, ◌^◌, ℕ, List, [], ◌∷◌, ◌++◌, length, get_or, take, drop, false, None, codes, ap, sym, subst, ◌∙◌, refl, arith, append_assoc, length-drop, take-append-drop}
 use Rattle.std.specs.Int.{w32, to_be_bytes, from_be_bytes}
 use Rattle.std.proofs.lemmas.Nat.{from_be_bytes-to_be_bytes_4}
 use Rattle.std.proofs.lemmas.List.{take_at, drop_at, drop_more, take_all, take_more, drop-drop, drop-take, get_or-drop, get_or-take, append-nil, take-take, length-take-le}
 use Rattle.std.proofs.Math.Seq.{take-add}
 use Rattle.std.proofs.lemmas.List.Elements.{All-nil}
 use Rattle.commit_disk.specs.Table.{IsStored, front, opened, head, end_block}
-use Rattle.commit_disk.specs.Attach.{LeadsTo, HasName, IsMade}
-use Rattle.commit_disk.specs.Frames.{IsRowsHead, IsEndHead}
+use Rattle.commit_disk.specs.Attach.{LeadsTo, HasName, IsMade, TellsOf}
+use Rattle.commit_disk.specs.Journal.{JournalState}
+use Rattle.commit_disk.specs.Frames.{IsRowsHead, IsEndHead, BlockTells}
 
 -- a kind and two numbers
 abbrev pub numbers_head : ℕ → ℕ → ℕ → List ℕ
@@ -44,6 +45,16 @@ module _ (bytes : List ℕ) (long : length bytes ≡ 10) where
   pub end_read : (room m n : ℕ) → m ≡ from_be_bytes w32 (take 4 (drop 2 bytes)) → n ≡ from_be_bytes w32 (take 4 (drop 6 bytes)) → IsEndHead room (drop 1 bytes) → (get_or bytes 1 0 ≡ 1) × (m ≡ 0) × (n ≡ 0)
   unfolding end_block
   end_read room m n reads_m reads_n is = reads_head 1 0 0 m n is.spelled (omega arith) (omega arith) reads_m reads_n
+
+  -- where these numbers may stand before no rows and no end, no block begins so
+  pub no_block : (room m n : ℕ) → m ≡ from_be_bytes w32 (take 4 (drop 2 bytes)) → n ≡ from_be_bytes w32 (take 4 (drop 6 bytes))
+      → (get_or bytes 1 0 ≡ 0 → 1 ≤ m → m ≤ 4096 → n < 4456640 → 11 + n ≤ room → ⊥) → (get_or bytes 1 0 ≡ 1 → m ≡ 0 → n ≡ 0 → 11 ≤ room → ⊥) → BlockTells None room (drop 1 bytes)
+  no_block room m n reads_m reads_n no_rows no_end = (
+    λ count len is.
+        let reads = rows_read room m n count len reads_m reads_n is in
+        no_rows reads.0 (omega (arith, is.some, reads.1)) (omega (arith, is.few, reads.1)) (omega (arith, is.short, reads.2)) (omega (arith, is.fits, reads.2)),
+    λ is. let reads = end_read room m n reads_m reads_n is in no_end reads.0 reads.1 reads.2 is.fits,
+  )
 
 pub front-new : (text : List ℕ) → front text [] false ≡ opened (head text)
 front-new text = simp append-nil
@@ -100,3 +111,13 @@ pub stored_text : (image text : List ℕ) (len : ℕ) → length text ≡ len �
 stored_text image text len size leads =
     sym (drop-take 16 len image) ∙ ap (λ (l : List ℕ). drop 16 l) (leads.spelled ∙ front-new text ∙ opened-head text)
     ∙ drop_at ((1 ∷ codes "WHTABLE" ++ to_be_bytes w32 1) ++ to_be_bytes w32 (length text)) text 16 refl
+
+-- what the gates tell of a file that was read on is told of the file, and of the text in its head
+pub table_told : (file one two : List ℕ) (len : ℕ) (journal : JournalState) → one ≡ file → two ≡ file → (head : (text : List ℕ) × (length text ≡ len) × LeadsTo (16 + len) file text [] false)
+    → ((text : List ℕ) → 16 + len ≡ 16 + length text → LeadsTo (16 + len) one text [] false → TellsOf journal one text)
+    → TellsOf journal file head.0 × (16 + len ≤ length two) × (take len (drop 16 two) ≡ head.0)
+table_told file one two len journal same still head tells = (
+  subst (λ (f : List ℕ). TellsOf journal f head.0) same (tells head.0 (ap (λ (n : ℕ). 16 + n) (sym head.1)) (subst (λ (f : List ℕ). LeadsTo (16 + len) f head.0 [] false) (sym same) head.2)),
+  omega (arith, head.2.gate, ap length still),
+  ap (λ (f : List ℕ). take len (drop 16 f)) still ∙ stored_text file head.0 len head.1 head.2,
+)

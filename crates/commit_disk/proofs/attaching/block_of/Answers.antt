@@ -1,21 +1,18 @@
 use Rattle.std.proofs.Common.{◌∙◌, ℕ, sym, ap, arith}
 use Rattle.std.specs.Int.{w32, to_be_bytes}
 use Rattle.commit_disk.specs.Table.{end_block}
-use Rattle.commit_disk.proofs.Frames.{rows_read, end_read, spells_head}
+use Rattle.commit_disk.proofs.Frames.{no_block, spells_head}
 use Rattle.commit_disk.proofs.attaching.block_of.Goals as goal
 use Rattle.commit_disk.proofs.attaching.block_of.Goals.{then-room-lt11-via-then-room-lt11, then-room-lt11-via-else-room-lt11+then-room-len}
 
 pub returns-then-room-lt11 : goal.returns-then-room-lt11
 returns-then-room-lt11 c = elim c.then-room-lt11.branch [
-  | then-room-lt11-via-then-room-lt11 w ↦ ((λ count len is. omega (arith, is.fits)), (λ is. omega (arith, is.fits)))
-  | then-room-lt11-via-else-room-lt11+then-room-len w ↦ (
-    (λ count len is.
-        let reads = rows_read c.args.head.now (omega arith) c.args.room c.number_at-count.result c.number_at-len.result count len c.number_at-count.ensures.value c.number_at-len.ensures.value is in
-        omega (arith, is.fits, reads.2)),
-    (λ is.
-        let reads = end_read c.args.head.now (omega arith) c.args.room c.number_at-count.result c.number_at-len.result c.number_at-count.ensures.value c.number_at-len.ensures.value is in
-        omega (arith, is.fits, reads.2)),
-  )
+  | then-room-lt11-via-then-room-lt11 w ↦
+      no_block c.args.head.now (omega arith) c.args.room c.number_at-count.result c.number_at-len.result c.number_at-count.ensures.value c.number_at-len.ensures.value
+      (λ kind some few short fits. omega arith) (λ kind none empty fits. omega arith)
+  | then-room-lt11-via-else-room-lt11+then-room-len w ↦
+      no_block c.args.head.now (omega arith) c.args.room c.number_at-count.result c.number_at-len.result c.number_at-count.ensures.value c.number_at-len.ensures.value
+      (λ kind some few short fits. omega arith) (λ kind none empty fits. omega arith)
 ]
 
 pub returns-in-0 : goal.returns-in-0
@@ -35,61 +32,31 @@ returns-in-1 c = record {
 }
 
 pub returns-in_default : goal.returns-in_default
-returns-in_default c = (
-  (λ count len is.
-      let reads = rows_read c.args.head.now (omega arith) c.args.room c.number_at-count.result c.number_at-len.result count len c.number_at-count.ensures.value c.number_at-len.ensures.value is in
-      omega (arith, is.some, is.few, is.short, reads.0, reads.1, reads.2)),
-  (λ is.
-      let reads = end_read c.args.head.now (omega arith) c.args.room c.number_at-count.result c.number_at-len.result c.number_at-count.ensures.value c.number_at-len.ensures.value is in
-      omega (arith, reads.0, reads.1, reads.2)),
-)
+returns-in_default c =
+    no_block c.args.head.now (omega arith) c.args.room c.number_at-count.result c.number_at-len.result c.number_at-count.ensures.value c.number_at-len.ensures.value
+    (λ kind some few short fits. omega arith) (λ kind none empty fits. omega arith)
 
 pub returns-in_default-2 : goal.returns-in_default-2
-returns-in_default-2 c = (
-  (λ count len is.
-      let reads = rows_read c.args.head.now (omega arith) c.args.room c.number_at-count.result c.number_at-len.result count len c.number_at-count.ensures.value c.number_at-len.ensures.value is in
-      omega (arith, is.some, is.few, is.short, reads.0, reads.1, reads.2)),
-  (λ is.
-      let reads = end_read c.args.head.now (omega arith) c.args.room c.number_at-count.result c.number_at-len.result c.number_at-count.ensures.value c.number_at-len.ensures.value is in
-      omega (arith, reads.0, reads.1, reads.2)),
-)
+returns-in_default-2 c =
+    no_block c.args.head.now (omega arith) c.args.room c.number_at-count.result c.number_at-len.result c.number_at-count.ensures.value c.number_at-len.ensures.value
+    (λ kind some few short fits. omega arith) (λ kind none empty fits. omega arith)
 
 pub returns-in_default-3 : goal.returns-in_default-3
-returns-in_default-3 c = (
-  (λ count len is.
-      let reads = rows_read c.args.head.now (omega arith) c.args.room c.number_at-count.result c.number_at-len.result count len c.number_at-count.ensures.value c.number_at-len.ensures.value is in
-      omega (arith, is.some, is.few, is.short, reads.0, reads.1, reads.2)),
-  (λ is.
-      let reads = end_read c.args.head.now (omega arith) c.args.room c.number_at-count.result c.number_at-len.result c.number_at-count.ensures.value c.number_at-len.ensures.value is in
-      omega (arith, reads.0, reads.1, reads.2)),
-)
+returns-in_default-3 c =
+    no_block c.args.head.now (omega arith) c.args.room c.number_at-count.result c.number_at-len.result c.number_at-count.ensures.value c.number_at-len.ensures.value
+    (λ kind some few short fits. omega arith) (λ kind none empty fits. omega arith)
 
 pub returns-in_default-4 : goal.returns-in_default-4
-returns-in_default-4 c = (
-  (λ count len is.
-      let reads = rows_read c.args.head.now (omega arith) c.args.room c.number_at-count.result c.number_at-len.result count len c.number_at-count.ensures.value c.number_at-len.ensures.value is in
-      omega (arith, is.some, is.few, is.short, reads.0, reads.1, reads.2)),
-  (λ is.
-      let reads = end_read c.args.head.now (omega arith) c.args.room c.number_at-count.result c.number_at-len.result c.number_at-count.ensures.value c.number_at-len.ensures.value is in
-      omega (arith, reads.0, reads.1, reads.2)),
-)
+returns-in_default-4 c =
+    no_block c.args.head.now (omega arith) c.args.room c.number_at-count.result c.number_at-len.result c.number_at-count.ensures.value c.number_at-len.ensures.value
+    (λ kind some few short fits. omega arith) (λ kind none empty fits. omega arith)
 
 pub returns-in_default-5 : goal.returns-in_default-5
-returns-in_default-5 c = (
-  (λ count len is.
-      let reads = rows_read c.args.head.now (omega arith) c.args.room c.number_at-count.result c.number_at-len.result count len c.number_at-count.ensures.value c.number_at-len.ensures.value is in
-      omega (arith, is.some, is.few, is.short, reads.0, reads.1, reads.2)),
-  (λ is.
-      let reads = end_read c.args.head.now (omega arith) c.args.room c.number_at-count.result c.number_at-len.result c.number_at-count.ensures.value c.number_at-len.ensures.value is in
-      omega (arith, reads.0, reads.1, reads.2)),
-)
+returns-in_default-5 c =
+    no_block c.args.head.now (omega arith) c.args.room c.number_at-count.result c.number_at-len.result c.number_at-count.ensures.value c.number_at-len.ensures.value
+    (λ kind some few short fits. omega arith) (λ kind none empty fits. omega arith)
 
 pub returns-in_default-6 : goal.returns-in_default-6
-returns-in_default-6 c = (
-  (λ count len is.
-      let reads = rows_read c.args.head.now (omega arith) c.args.room c.number_at-count.result c.number_at-len.result count len c.number_at-count.ensures.value c.number_at-len.ensures.value is in
-      omega (arith, is.some, is.few, is.short, reads.0, reads.1, reads.2)),
-  (λ is.
-      let reads = end_read c.args.head.now (omega arith) c.args.room c.number_at-count.result c.number_at-len.result c.number_at-count.ensures.value c.number_at-len.ensures.value is in
-      omega (arith, reads.0, reads.1, reads.2)),
-)
+returns-in_default-6 c =
+    no_block c.args.head.now (omega arith) c.args.room c.number_at-count.result c.number_at-len.result c.number_at-count.ensures.value c.number_at-len.ensures.value
+    (λ kind some few short fits. omega arith) (λ kind none empty fits. omega arith)

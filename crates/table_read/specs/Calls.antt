@@ -1,0 +1,54 @@
+-- What the parts of verifying do.
+use Rattle.std.specs.Prelude.{◌≡◌, ◌≤◌, ◌<◌, ◌^◌, ℕ, List, ◌∷◌, ◌++◌, length, drop, Bool, IsTrue, Result, Ok, Err, ⊤}
+use Rattle.std.specs.Int.{w32, to_be_bytes}
+use Rattle.tuple_schema.specs.declared.memory.Stop.{Stop}
+use Rattle.tuple_schema.specs.declared.memory.Stop.TheVariants.{Memory, Fault}
+use Rattle.tuple_schema.specs.declared.value.Value.{Value}
+use Rattle.tuple_schema.specs.declared.schema.Column.{Column}
+use Rattle.outside.specs.Images.{SameImages}
+use Rattle.commit_disk.specs.declared.attach.TableFault.{TableFault}
+use Rattle.commit_disk.specs.declared.attach.TableFault.TheVariants.{Disk, NotATable, WorkflowDiffers}
+use Rattle.commit_disk.specs.Crashes.{GoesOn, PassesOver}
+use Rattle.commit_disk.specs.Table.{Stored}
+use Rattle.row_codec.specs.Rows.{row_bytes}
+use Rattle.row_codec.specs.Decoding.{row_at}
+use Rattle.table_read.specs.declared.blocks.BlockHead.{BlockHead}
+use Rattle.table_read.specs.Rows.{or_place, next_gate}
+
+-- nothing new is left: each image of these moments is one of those from before, and a later moment leaves only what an earlier one may leave
+abbrev pub NothingNew : ℕ → ℕ → (ℕ → List ℕ → Type 0) → (List ℕ → Type 0) → Type 0
+NothingNew first last left_at before = PassesOver first last left_at (λ _. ⊥) before
+
+-- the disk was only read
+pub record OnlyRead {D : Type 0} (len : D → ℕ) (honest : D → Bool) (seen : D → List ℕ) (may_leave : D → List ℕ → Type 0) (clock : D → ℕ) (left_at : D → ℕ → List ℕ → Type 0) (faults : D → ℕ) (old new : D) : Type 0 where
+  pub same_len : len new ≡ len old
+  pub still_honest : honest new ≡ honest old
+  pub same_file : IsTrue (honest old) → seen new ≡ seen old
+  pub same_images : IsTrue (honest old) → SameImages (may_leave old) (may_leave new)
+  pub time : IsTrue (honest old) → GoesOn (clock old) (clock new) (left_at old) (left_at new)
+  pub nothing_new : IsTrue (honest old) → NothingNew (clock old) (clock new) (left_at new) (may_leave old)
+  pub later : faults old ≤ faults new
+
+-- what the row at the front of the bytes tells: how many bytes it takes, or that there is none
+abbrev pub RowTells : List Column → ℕ → List ℕ → Result ℕ (Stop TableFault) → Type 0
+RowTells columns place bytes (Ok len) = (row : List Value) × (row_at columns bytes ≡ Ok (row, drop len bytes)) × (length (row_bytes row) ≡ len) × (len ≤ length bytes)
+RowTells columns place bytes (Err Memory) = ⊤
+RowTells columns place bytes (Err (Fault Disk)) = ⊥
+RowTells columns place bytes (Err (Fault (NotATable at))) = (at ≡ place) × (or_place place (row_at columns bytes) ≡ Err place)
+RowTells columns place bytes (Err (Fault WorkflowDiffers)) = ⊥
+
+-- behind this gate the file has this block, of rows or the end block, which ends by the last gate
+pub record HasBlock (file : List ℕ) (gate last : ℕ) (block : Stored) : Type 0 where
+  pub kind : ℕ
+  pub behind : List ℕ
+  pub spelled : drop gate file ≡ 1 ∷ kind ∷ to_be_bytes w32 block.count ++ to_be_bytes w32 (length block.bytes) ++ block.bytes ++ behind
+  pub few : block.count < 2 ^ 32
+  pub short : length block.bytes < 2 ^ 32
+  pub within : next_gate gate block ≤ last
+
+-- the head of a block was read, unless the disk failed
+abbrev pub HeadTells : Result BlockHead TableFault → Stored → Type 0
+HeadTells (Ok head) block = (head.count ≡ block.count) × (head.len ≡ length block.bytes)
+HeadTells (Err Disk) block = ⊤
+HeadTells (Err (NotATable at)) block = ⊥
+HeadTells (Err WorkflowDiffers) block = ⊥
