@@ -11,7 +11,7 @@ import sys
 import tempfile
 
 TOP = os.path.dirname(os.path.dirname(os.path.abspath(__file__)))
-PROGRAM = os.path.join(TOP, sys.argv[1]) if len(sys.argv) > 1 else None
+PROGRAM = os.path.join(TOP, "crates", "whload", "out", "whload")
 
 FLOW = b"""table = { input = "nums" }
 source = [ { name = "nums", file = "nums.csv", columns = ["a int", "b int"], promise = "seq" } ]
@@ -201,7 +201,7 @@ def devices():
 
 
 def main():
-    if PROGRAM is None or not os.path.exists(PROGRAM):
+    if not os.path.exists(PROGRAM):
         print("tests/real_files.py: there is no program to run; run the gate first")
         return 1
     for part in (the_example, csv_forms, refusals, devices):
