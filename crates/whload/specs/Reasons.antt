@@ -8,10 +8,10 @@ use Rattle.whload.specs.declared.reason.Status.TheVariants as status
 
 abbrev pub status_of : Reason → Status
 status_of why.Usage = status.Usage
-status_of why.FlowMissing = status.Flow
-status_of (why.FlowTooLong size) = status.Flow
-status_of (why.Flow fault) = status.Flow
-status_of (why.NotBuilt unbuilt.Flow) = status.Flow
+status_of why.FlowMissing = status.Schema
+status_of (why.FlowTooLong size) = status.Schema
+status_of (why.Flow fault) = status.Schema
+status_of (why.NotBuilt unbuilt.Flow) = status.Schema
 status_of (why.NotBuilt unbuilt.Source) = status.Source
 status_of why.AlreadyBegun = status.Table
 status_of why.Depot = status.Device
@@ -22,7 +22,7 @@ status_of why.Memory = status.Memory
 abbrev pub exit_status_of : Status → ℕ
 exit_status_of status.Done = 0
 exit_status_of status.Usage = 2
-exit_status_of status.Flow = 3
+exit_status_of status.Schema = 3
 exit_status_of status.Source = 4
 exit_status_of status.Device = 5
 exit_status_of status.Memory = 6

@@ -10,7 +10,7 @@ use workflow_file::FlowFault;
 #[derive(Clone, Copy, Debug, PartialEq, Eq)]
 pub enum Unbuilt {
     /// The flow has something that isn't built.
-    Flow,
+    Schema,
     /// The source's file has something that isn't built.
     Source,
 }
@@ -45,7 +45,7 @@ pub enum Reason {
 pub enum Status {
     Done,
     Usage,
-    Flow,
+    Schema,
     Source,
     Device,
     Memory,
@@ -65,10 +65,10 @@ impl Reason {
     {
         match self {
             Reason::Usage => Status::Usage,
-            Reason::FlowMissing | Reason::FlowTooLong { .. } | Reason::Flow(_) => Status::Flow,
+            Reason::FlowMissing | Reason::FlowTooLong { .. } | Reason::Flow(_) => Status::Schema,
             Reason::NotBuilt {
                 what: Unbuilt::Flow,
-            } => Status::Flow,
+            } => Status::Schema,
             Reason::NotBuilt {
                 what: Unbuilt::Source,
             } => Status::Source,
@@ -95,7 +95,7 @@ impl Status {
         match self {
             Status::Done => 0,
             Status::Usage => 2,
-            Status::Flow => 3,
+            Status::Schema => 3,
             Status::Source => 4,
             Status::Device => 5,
             Status::Memory => 6,

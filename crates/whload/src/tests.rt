@@ -194,7 +194,7 @@ fn the_first_fault_of_a_flow_is_told(rt: HostRuntime) -> Result<(), Fail> {
         let mut on = prepare(&rt, Some(flow.as_str()), Some(THREE), b"")?;
         let ending = load(&rt, &mut on)?;
         let line = format!(in rt.alloc(); "whload: {note}\n")?;
-        is_refused(&rt, &ending, &on, Status::Flow, line.as_str());
+        is_refused(&rt, &ending, &on, Status::Schema, line.as_str());
         assert_eq!(rt; on.disk.bytes(), b"".as_slice());
     }
     Ok(())
@@ -208,7 +208,7 @@ fn a_missing_or_long_flow_is_refused(rt: HostRuntime) -> Result<(), Fail> {
         &rt,
         &ending,
         &on,
-        Status::Flow,
+        Status::Schema,
         "whload: flow.toml is missing\n",
     );
     let mut flow = String::from_str(rt.alloc(), FLOW)?;
@@ -222,7 +222,7 @@ fn a_missing_or_long_flow_is_refused(rt: HostRuntime) -> Result<(), Fail> {
     let mut on = prepare(&rt, Some(flow.as_str()), Some(THREE), b"")?;
     let ending = load(&rt, &mut on)?;
     let note = "whload: flow.toml has 65537 bytes\n";
-    is_refused(&rt, &ending, &on, Status::Flow, note);
+    is_refused(&rt, &ending, &on, Status::Schema, note);
     assert_eq!(rt; on.disk.bytes(), b"".as_slice());
     Ok(())
 }
@@ -313,7 +313,7 @@ fn a_failed_note_changes_no_status(rt: HostRuntime) -> Result<(), Fail> {
     let mut on = prepare(&rt, None, None, b"")?;
     on.notes.fail_at(1)?;
     let ending = load(&rt, &mut on)?;
-    is_refused(&rt, &ending, &on, Status::Flow, "");
+    is_refused(&rt, &ending, &on, Status::Schema, "");
     assert_eq!(rt; ending.status.code(), 3);
     Ok(())
 }
