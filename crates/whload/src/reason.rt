@@ -10,7 +10,7 @@ use workflow_file::FlowFault;
 #[derive(Clone, Copy, Debug, PartialEq, Eq)]
 pub enum Unbuilt {
     /// The flow has something that isn't built.
-    Schema,
+    Flow,
     /// The source's file has something that isn't built.
     Source,
 }
