@@ -267,21 +267,21 @@ fn steps_after_crash(alloc: Global, write: u64, torn: Torn) -> Result<(u32, u32)
 #[test]
 fn a_stop_at_any_write_leaves_whole_blocks(rt: HostRuntime) -> Result<(), Fail> {
     for torn in [Torn::Nothing, Torn::All, Torn::Ones] {
-        let opened = if torn == Torn::Nothing { 0 } else { 1 };
-        for (write, done, more) in [
-            (1, 0, 0),
-            (2, 0, 0),
-            (3, 0, opened),
-            (4, 1, 0),
-            (5, 1, opened),
-            (6, 2, 0),
-            (7, 2, opened),
-            (8, 3, 0),
-            (9, 3, opened),
-            (10, 4, 0),
+        for (write, done, without, with) in [
+            (1, 0, 0, 0),
+            (2, 0, 0, 0),
+            (3, 0, 0, 1),
+            (4, 1, 1, 1),
+            (5, 1, 1, 2),
+            (6, 2, 2, 2),
+            (7, 2, 2, 3),
+            (8, 3, 3, 3),
+            (9, 3, 3, 4),
+            (10, 4, 4, 4),
         ] {
+            let found = if torn == Torn::Nothing { without } else { with };
             let steps = steps_after_crash(rt.alloc(), write, torn)?;
-            assert_eq!(rt; steps, (done, done + more), "at write {write}, {torn:?}");
+            assert_eq!(rt; steps, (done, found), "at write {write}, {torn:?}");
         }
     }
     Ok(())

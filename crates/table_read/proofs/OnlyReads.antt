@@ -1,35 +1,25 @@
 -- Calls that only read a disk, one after the other.
-use Rattle.std.proofs.Common.{◌≡◌, ◌≤◌, ◌∙◌, ⊎_elim, inl, inr, ℕ, List, Bool, IsTrue, refl, subst, arith}
+use Rattle.std.proofs.Common.{◌≡◌, ◌≤◌, ◌∙◌, inl, inr, ℕ, List, Bool, IsTrue, refl, subst, arith}
 use Rattle.std.proofs.lemmas.Bool.{cases_lt}
 use Rattle.outside.specs.Disk.{Kept}
 use Rattle.outside.specs.Images.{SameImages, Ticks}
-use Rattle.commit_disk.specs.Crashes.{Each, GoesOn, LeftBetween}
-use Rattle.table_read.specs.Calls.{OnlyRead, NothingNew}
-
--- what was left before, at each of these moments
-only_before : (first last : ℕ) (left : ℕ → List ℕ → Type 0) (was : List ℕ → Type 0) → NothingNew first last left was → Each (LeftBetween first last left) was
-only_before first last left was nothing image left_it = ⊎_elim (λ none. absurd none) (λ it. it) (nothing.either image left_it)
-
--- and less at a later one
-fewer : (first last : ℕ) (left : ℕ → List ℕ → Type 0) (was : List ℕ → Type 0) → NothingNew first last left was
-    → (earlier later : ℕ) → first ≤ earlier → earlier ≤ later → later ≤ last → Each (left later) (left earlier)
-fewer first last left was nothing earlier later from le to image left_it =
-    ⊎_elim (λ less. less image left_it) (λ none. absurd none.2) (nothing.ordered earlier later from le to)
+use Rattle.commit_disk.specs.Crashes.{Each, GoesOn, NothingNew}
+use Rattle.table_read.specs.Calls.{OnlyRead}
 
 -- one call
 one_call : (before now : ℕ) (left still : ℕ → List ℕ → Type 0) (was is : List ℕ → Type 0) → Ticks before now left still → SameImages (left before) was → SameImages (still now) is → Each is was → NothingNew before now still was
 one_call before now left still was is ticks then here less = record {
-  either = λ image left_it.
+  each = λ image left_it.
       elim (cases_lt before left_it.0) [
         | inl past ↦
             let at_end : left_it.0 ≡ now = omega (arith, ticks.by_one, left_it.1, left_it.2) in
-            inr (less image ((here image).0 (subst (λ (m : ℕ). still m image) at_end left_it.3)))
+            less image ((here image).0 (subst (λ (m : ℕ). still m image) at_end left_it.3))
         | inr le ↦
             let at_start : left_it.0 ≡ before = omega (arith, left_it.1) in
-            inr ((then image).0 ((ticks.kept before (omega arith) image).1 (subst (λ (m : ℕ). still m image) at_start left_it.3)))
+            (then image).0 ((ticks.kept before (omega arith) image).1 (subst (λ (m : ℕ). still m image) at_start left_it.3))
       ];
-  ordered = λ earlier later from le to.
-      inl (elim (cases_lt earlier later) [
+  fewer = λ earlier later from le to.
+      elim (cases_lt earlier later) [
         | inr ge ↦
             let same : later ≡ earlier = omega arith in
             λ image left_it. subst (λ (m : ℕ). still m image) same left_it
@@ -39,7 +29,7 @@ one_call before now left still was is ticks then here less = record {
             λ image left_it.
             let old = less image ((here image).0 (subst (λ (m : ℕ). still m image) at_end left_it)) in
             subst (λ (m : ℕ). still m image) at_start ((ticks.kept before (omega arith) image).0 ((then image).1 old))
-      ]);
+      ];
 }
 
 -- one call and then more
@@ -55,22 +45,22 @@ goes_on first middle last left still now one two = record {
 new_on : (first middle last : ℕ) (left now : ℕ → List ℕ → Type 0) (was is : List ℕ → Type 0) → first ≤ middle → NothingNew first middle left was → GoesOn middle last left now → Each is was
     → NothingNew middle last now is → NothingNew first last now was
 new_on first middle last left now was is before one goes less two = record {
-  either = λ image left_it.
+  each = λ image left_it.
       elim (cases_lt middle left_it.0) [
-        | inl past ↦ inr (less image (only_before middle last now is two image (left_it.0, omega arith, left_it.2, left_it.3)))
-        | inr le ↦ inr (only_before first middle left was one image (left_it.0, left_it.1, le, (goes.kept left_it.0 le image).1 left_it.3))
+        | inl past ↦ less image (two.each image (left_it.0, omega arith, left_it.2, left_it.3))
+        | inr le ↦ one.each image (left_it.0, left_it.1, le, (goes.kept left_it.0 le image).1 left_it.3)
       ];
-  ordered = λ u v from le to.
-      inl (elim (cases_lt middle u) [
-        | inl past ↦ fewer middle last now is two u v (omega arith) le to
+  fewer = λ u v from le to.
+      elim (cases_lt middle u) [
+        | inl past ↦ two.fewer u v (omega arith) le to
         | inr u_le ↦ elim (cases_lt middle v) [
           | inl past ↦
               λ image left_it.
-              let at_middle = fewer middle last now is two middle v (omega arith) (omega arith) to image left_it in
-              (goes.kept u u_le image).0 (fewer first middle left was one u middle from u_le (omega arith) image ((goes.kept middle (omega arith) image).1 at_middle))
-          | inr v_le ↦ λ image left_it. (goes.kept u u_le image).0 (fewer first middle left was one u v from le v_le image ((goes.kept v v_le image).1 left_it))
+              let at_middle = two.fewer middle v (omega arith) (omega arith) to image left_it in
+              (goes.kept u u_le image).0 (one.fewer u middle from u_le (omega arith) image ((goes.kept middle (omega arith) image).1 at_middle))
+          | inr v_le ↦ λ image left_it. (goes.kept u u_le image).0 (one.fewer u v from le v_le image ((goes.kept v v_le image).1 left_it))
         ]
-      ]);
+      ];
 }
 
 module _ {D : Type 0} (len : D → ℕ) (honest : D → Bool) (seen : D → List ℕ) (may_leave : D → List ℕ → Type 0) (clock : D → ℕ) (left_at : D → ℕ → List ℕ → Type 0) (faults : D → ℕ)

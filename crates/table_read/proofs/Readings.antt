@@ -8,8 +8,8 @@ use Rattle.tuple_schema.specs.Stops.{◌>>=◌}
 use Rattle.row_codec.specs.declared.decode.RowFault.{RowFault}
 use Rattle.row_codec.specs.Rows.{row_bytes}
 use Rattle.row_codec.specs.Decoding.{row_at}
-use Rattle.commit_disk.specs.declared.attach.TableFault.{TableFault}
-use Rattle.commit_disk.specs.declared.attach.TableFault.TheVariants as fault
+use Rattle.commit_disk.specs.declared.attaching.TableFault.{TableFault}
+use Rattle.commit_disk.specs.declared.attaching.TableFault.TheVariants as fault
 use Rattle.commit_disk.specs.Table.{Stored}
 use Rattle.table_read.specs.Rows.{or_place, no_rows_at, rows_at, block_rows, next_gate, table_rows}
 use Rattle.table_read.specs.Places.{wrong_place, Verifies}

@@ -10,8 +10,8 @@ use Rattle.commit_disk.specs.Attach.{TellsOf}
 use Rattle.commit_disk.specs.Journal.{JournalState}
 use Rattle.tuple_schema.specs.declared.memory.Stop.{Stop}
 use Rattle.tuple_schema.specs.declared.memory.Stop.TheVariants as stop
-use Rattle.commit_disk.specs.declared.attach.TableFault.{TableFault}
-use Rattle.commit_disk.specs.declared.attach.TableFault.TheVariants as fault
+use Rattle.commit_disk.specs.declared.attaching.TableFault.{TableFault}
+use Rattle.commit_disk.specs.declared.attaching.TableFault.TheVariants as fault
 use Rattle.table_read.specs.Rows.{rows_at, block_rows, next_gate, table_rows}
 use Rattle.table_read.specs.Places.{wrong_place, Verifies}
 use Rattle.table_read.specs.Calls.{HasBlock, HeadTells}

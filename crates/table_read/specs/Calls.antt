@@ -6,18 +6,14 @@ use Rattle.tuple_schema.specs.declared.memory.Stop.TheVariants.{Memory, Fault}
 use Rattle.tuple_schema.specs.declared.value.Value.{Value}
 use Rattle.tuple_schema.specs.declared.schema.Column.{Column}
 use Rattle.outside.specs.Images.{SameImages}
-use Rattle.commit_disk.specs.declared.attach.TableFault.{TableFault}
-use Rattle.commit_disk.specs.declared.attach.TableFault.TheVariants.{Disk, NotATable, WorkflowDiffers}
-use Rattle.commit_disk.specs.Crashes.{GoesOn, PassesOver}
+use Rattle.commit_disk.specs.declared.attaching.TableFault.{TableFault}
+use Rattle.commit_disk.specs.declared.attaching.TableFault.TheVariants.{Disk, NotATable, WorkflowDiffers}
+use Rattle.commit_disk.specs.Crashes.{GoesOn, NothingNew}
 use Rattle.commit_disk.specs.Table.{Stored}
 use Rattle.row_codec.specs.Rows.{row_bytes}
 use Rattle.row_codec.specs.Decoding.{row_at}
 use Rattle.table_read.specs.declared.blocks.BlockHead.{BlockHead}
 use Rattle.table_read.specs.Rows.{or_place, next_gate}
-
--- nothing new is left: each image of these moments is one of those from before, and a later moment leaves only what an earlier one may leave
-abbrev pub NothingNew : ℕ → ℕ → (ℕ → List ℕ → Type 0) → (List ℕ → Type 0) → Type 0
-NothingNew first last left_at before = PassesOver first last left_at (λ _. ⊥) before
 
 -- the disk was only read
 pub record OnlyRead {D : Type 0} (len : D → ℕ) (honest : D → Bool) (seen : D → List ℕ) (may_leave : D → List ℕ → Type 0) (clock : D → ℕ) (left_at : D → ℕ → List ℕ → Type 0) (faults : D → ℕ) (old new : D) : Type 0 where

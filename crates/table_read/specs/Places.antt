@@ -2,8 +2,8 @@
 use Rattle.std.specs.Prelude.{◌≡◌, ℕ, Result, Ok, Err, Option, Some, None, ⊤}
 use Rattle.tuple_schema.specs.declared.memory.Stop.{Stop}
 use Rattle.tuple_schema.specs.declared.memory.Stop.TheVariants.{Memory, Fault}
-use Rattle.commit_disk.specs.declared.attach.TableFault.{TableFault}
-use Rattle.commit_disk.specs.declared.attach.TableFault.TheVariants.{Disk, NotATable, WorkflowDiffers}
+use Rattle.commit_disk.specs.declared.attaching.TableFault.{TableFault}
+use Rattle.commit_disk.specs.declared.attaching.TableFault.TheVariants.{Disk, NotATable, WorkflowDiffers}
 use Rattle.outside.specs.Counts.{Rose}
 
 -- the first wrong place, where there is one

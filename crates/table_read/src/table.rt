@@ -4,9 +4,8 @@ ghost use Rattle.outside.specs.Disk.{Kept};
 ghost use Rattle.outside.specs.Images.{SameImages};
 ghost use Rattle.tuple_schema.specs.Stops.{IfFault};
 ghost use Rattle.commit_disk.specs.Attach.{TellsOf};
-ghost use Rattle.commit_disk.specs.Crashes.{GoesOn};
+ghost use Rattle.commit_disk.specs.Crashes.{GoesOn, NothingNew};
 ghost use Rattle.table_read.specs.Rows.{table_rows};
-ghost use Rattle.table_read.specs.Calls.{NothingNew};
 ghost use Rattle.table_read.specs.Places.{Verifies, wrong_place, IsCaused};
 
 use crate::blocks::verify_block;
