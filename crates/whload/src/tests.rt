@@ -1,8 +1,8 @@
 // Whole loads over devices in memory.
-use crate::{Ending, Reason, Status, Unbuilt, run};
+use crate::{Ending, run};
 use outside::{MemoryDepot, MemoryDisk, MemorySink};
+use std::alloc::Global;
 use std::fmt::Write;
-use std::process::Abort;
 use std::test::Fail;
 
 const FLOW: &str =
@@ -16,221 +16,245 @@ const THREE_ROWS: &str =
 
 const END: &str = "0101000000000000000000";
 
+const DONE: &str = "0|complete\nbefore 0\nadded 3\n|";
+
+// What stands after a command.
 #[derive(Drop)]
-struct Devices {
-    depot: MemoryDepot,
-    disk: MemoryDisk,
-    out: MemorySink,
-    notes: MemorySink,
+struct Left {
+    // The exit status, the output and the notes.
+    said: String,
+    table: Vec<u8>,
+    served: u64,
+    starved: u64,
 }
 
-// A folder with these files, where they are given, and a table file of these bytes.
-fn prepare(
-    rt: &HostRuntime,
-    flow: Option<&str>,
-    nums: Option<&str>,
-    table: &[u8],
-) -> Result<Devices, Fail> {
-    let mut depot = MemoryDepot::new(rt.alloc());
+fn said(alloc: Global, ending: &Ending, out: &[u8], notes: &[u8]) -> Result<String, Fail> {
+    let out = String::from_utf8_lossy(alloc, out)?;
+    let notes = String::from_utf8_lossy(alloc, notes)?;
+    Ok(format!(in alloc; "{}|{out}|{notes}", ending.status.code())?)
+}
+
+fn owned(alloc: Global, words: &[&str]) -> Result<Vec<String>, Fail> {
+    let mut owned = Vec::new(alloc);
+    for word in words {
+        owned.push(String::from_str(alloc, word)?)?;
+    }
+    Ok(owned)
+}
+
+fn command(
+    alloc: Global,
+    words: &[&str],
+    mut depot: MemoryDepot,
+    mut disk: MemoryDisk,
+    mut out: MemorySink,
+    mut notes: MemorySink,
+) -> Result<Left, Fail> {
+    let words = owned(alloc, words)?;
+    let ending = run(alloc, &words, &mut depot, &mut disk, &mut out, &mut notes);
+    Ok(Left {
+        said: said(alloc, &ending, out.bytes(), notes.bytes())?,
+        table: disk.bytes().to_vec(alloc)?,
+        served: depot.served(),
+        starved: disk.starved(),
+    })
+}
+
+// A folder with these files, where they are given.
+fn folder(alloc: Global, flow: Option<&str>, nums: Option<&str>) -> Result<MemoryDepot, Fail> {
+    let mut depot = MemoryDepot::new(alloc);
     if let Some(text) = flow {
         depot.put("flow.toml", text.as_bytes())?;
     }
     if let Some(text) = nums {
         depot.put("nums.csv", text.as_bytes())?;
     }
-    Ok(Devices {
-        depot,
-        disk: MemoryDisk::new(rt.alloc(), table)?,
-        out: MemorySink::new(rt.alloc()),
-        notes: MemorySink::new(rt.alloc()),
-    })
+    Ok(depot)
 }
 
-fn command(rt: &HostRuntime, on: &mut Devices, words: &[&str]) -> Result<Ending, Fail> {
-    let mut owned = Vec::new(rt.alloc());
-    for word in words {
-        owned.push(String::from_str(rt.alloc(), word)?)?;
-    }
-    Ok(run(
-        rt.alloc(),
-        &owned,
-        &mut on.depot,
-        &mut on.disk,
-        &mut on.out,
-        &mut on.notes,
-    ))
+fn load_over(alloc: Global, depot: MemoryDepot, disk: MemoryDisk) -> Result<Left, Fail> {
+    let out = MemorySink::new(alloc);
+    let notes = MemorySink::new(alloc);
+    command(alloc, &["load", "d"], depot, disk, out, notes)
 }
 
-fn load(rt: &HostRuntime, on: &mut Devices) -> Result<Ending, Fail> {
-    command(rt, on, &["load", "d"])
+// A load of a folder with these files, and a table file of these bytes.
+fn load(alloc: Global, flow: Option<&str>, nums: Option<&str>, table: &[u8]) -> Result<Left, Fail> {
+    let depot = folder(alloc, flow, nums)?;
+    load_over(alloc, depot, MemoryDisk::new(alloc, table)?)
 }
 
-fn hex(rt: &HostRuntime, bytes: &[u8]) -> Result<String, Fail> {
-    let mut text = String::new(rt.alloc());
+fn hex(alloc: Global, bytes: &[u8]) -> Result<String, Fail> {
+    let mut text = String::new(alloc);
     for byte in bytes {
         write!(text, "{byte:02x}")?;
     }
     Ok(text)
 }
 
-// What stands in the table from the first gate on, behind the head of the flow text.
-fn blocks(rt: &HostRuntime, on: &Devices, flow: &str) -> Result<String, Fail> {
-    let mut head = String::new(rt.alloc());
+// What stands in the table from the first gate on, behind the head of this flow text.
+fn blocks(alloc: Global, left: &Left, flow: &str) -> Result<String, Fail> {
+    let mut head = String::new(alloc);
     write!(head, "0157485441424c4500000001{:08x}", flow.len())?;
-    head.push_str(hex(rt, flow.as_bytes())?.as_str())?;
-    let image = hex(rt, on.disk.bytes())?;
+    head.push_str(hex(alloc, flow.as_bytes())?.as_str())?;
+    let image = hex(alloc, left.table.as_slice())?;
     let blocks = image.as_str().strip_prefix(head.as_str());
-    Ok(String::from_str(rt.alloc(), blocks.ok_or("no head")?)?)
-}
-
-fn is_done(rt: &impl Abort, ending: &Ending, on: &Devices, report: &str) {
-    assert_eq!(rt; ending.status, Status::Done);
-    assert!(rt; ending.reason.is_none());
-    assert_eq!(rt; on.out.bytes(), report.as_bytes());
-    assert_eq!(rt; on.notes.bytes(), b"".as_slice());
-}
-
-fn is_refused(rt: &impl Abort, ending: &Ending, on: &Devices, status: Status, note: &str) {
-    assert_eq!(rt; ending.status, status);
-    assert!(rt; ending.reason.is_some());
-    assert_eq!(rt; on.out.bytes(), b"".as_slice());
-    assert_eq!(rt; on.notes.bytes(), note.as_bytes());
+    Ok(String::from_str(alloc, blocks.ok_or("no head")?)?)
 }
 
 #[test]
 fn three_rows_make_a_table(rt: HostRuntime) -> Result<(), Fail> {
-    let mut on = prepare(&rt, Some(FLOW), Some(THREE), b"")?;
-    let ending = load(&rt, &mut on)?;
-    is_done(&rt, &ending, &on, "complete\nbefore 0\nadded 3\n");
-    let blocks = blocks(&rt, &on, FLOW)?;
+    let left = load(rt.alloc(), Some(FLOW), Some(THREE), b"")?;
+    assert_eq!(rt; left.said.as_str(), DONE);
+    let blocks = blocks(rt.alloc(), &left, FLOW)?;
     assert_eq!(rt; blocks.as_str().strip_prefix(THREE_ROWS), Some(END));
     Ok(())
 }
 
 #[test]
 fn a_header_alone_makes_an_ended_table(rt: HostRuntime) -> Result<(), Fail> {
-    let mut on = prepare(&rt, Some(FLOW), Some("a,b\n"), b"")?;
-    let ending = load(&rt, &mut on)?;
-    is_done(&rt, &ending, &on, "complete\nbefore 0\nadded 0\n");
-    assert_eq!(rt; blocks(&rt, &on, FLOW)?.as_str(), END);
+    let left = load(rt.alloc(), Some(FLOW), Some("a,b\n"), b"")?;
+    assert_eq!(rt; left.said.as_str(), "0|complete\nbefore 0\nadded 0\n|");
+    assert_eq!(rt; blocks(rt.alloc(), &left, FLOW)?.as_str(), END);
     Ok(())
 }
 
 #[test]
 fn a_second_load_is_refused(rt: HostRuntime) -> Result<(), Fail> {
-    let mut on = prepare(&rt, Some(FLOW), Some(THREE), b"")?;
-    load(&rt, &mut on)?;
-    let before = on.disk.bytes().to_vec(rt.alloc())?;
-    on.out = MemorySink::new(rt.alloc());
-    let ending = load(&rt, &mut on)?;
-    let note = "whload: table.whl is there already\n";
-    is_refused(&rt, &ending, &on, Status::Table, note);
-    assert_eq!(rt; ending.status.code(), 7);
-    assert_eq!(rt; on.disk.bytes(), before.as_slice());
+    let first = load(rt.alloc(), Some(FLOW), Some(THREE), b"")?;
+    let table = first.table.as_slice();
+    let second = load(rt.alloc(), Some(FLOW), Some(THREE), table)?;
+    assert_eq!(rt;
+        second.said.as_str(),
+        "7||whload: table.whl is there already\n"
+    );
+    assert_eq!(rt; second.table.as_slice(), table);
     Ok(())
 }
+
+const FAULTY: [Option<&str>; 5] = [
+    Some("a,b\n1,10\n2,x\n3,30\n"),
+    Some("a,b\n1,10\n2\n"),
+    Some("a,c\n1,10\n"),
+    Some(""),
+    None,
+];
 
 #[test]
 fn a_faulty_source_leaves_no_table(rt: HostRuntime) -> Result<(), Fail> {
-    for nums in [
-        Some("a,b\n1,10\n2,x\n3,30\n"),
-        Some("a,b\n1,10\n2\n"),
-        Some("a,c\n1,10\n"),
-        Some(""),
-        None,
-    ] {
-        let mut on = prepare(&rt, Some(FLOW), nums, b"")?;
-        let ending = load(&rt, &mut on)?;
-        let note = "whload: source file is not built yet\n";
-        is_refused(&rt, &ending, &on, Status::Source, note);
-        assert_eq!(rt; on.disk.bytes(), b"".as_slice());
+    for nums in FAULTY {
+        let left = load(rt.alloc(), Some(FLOW), nums, b"")?;
+        assert_eq!(rt;
+            left.said.as_str(),
+            "4||whload: source file is not built yet\n"
+        );
+        assert_eq!(rt; left.table.len(), 0);
     }
     Ok(())
 }
 
-// A flow with one source of these columns, and more at its end.
-fn flow_with(rt: &HostRuntime, columns: &str, more: &str) -> Result<String, Fail> {
-    let mut text = String::from_str(rt.alloc(), "table = { input = \"nums\" }\n")?;
-    write!(
-        text,
-        "source = [ {{ name = \"nums\", file = \"nums.csv\", columns = [{columns}], promise = \"seq\" }} ]\n{more}"
+// A load whose flow has one source of these columns, and more at its end.
+fn load_with(alloc: Global, columns: &str, more: &str) -> Result<Left, Fail> {
+    let flow = format!(in alloc;
+        "table = {{ input = \"nums\" }}\nsource = [ {{ name = \"nums\", file = \"nums.csv\", columns = [{columns}], promise = \"seq\" }} ]\n{more}"
     )?;
-    Ok(text)
+    load(alloc, Some(flow.as_str()), Some(THREE), b"")
 }
+
+const INTS: &str = "\"a int\", \"b int\"";
+
+const SORT: &str =
+    "node = [ { name = \"up\", kind = \"sort\", input = \"nums\", by = [\"a\"] } ]\n";
+
+const REFUSED: [(&str, &str, &str); 10] = [
+    (
+        "\"a int\", \"B int\"",
+        "",
+        "3||whload: flow.toml source 1 columns 2: bad name\n",
+    ),
+    (
+        "\"a int\", \"b whole\"",
+        "",
+        "3||whload: flow.toml source 1 columns 2: bad word\n",
+    ),
+    ("", "", "3||whload: flow.toml source 1 columns 0: empty\n"),
+    (
+        INTS,
+        "more = 1\n",
+        "3||whload: flow.toml top 0 more 0: unknown\n",
+    ),
+    (
+        INTS,
+        "node = 7\n",
+        "3||whload: flow.toml top 0 node 0: not a list\n",
+    ),
+    (
+        INTS,
+        "node = [ 7 ]\n",
+        "3||whload: flow.toml top 0 node 1: not a table\n",
+    ),
+    (
+        INTS,
+        "node = [ { name = \"up\" } ]\n",
+        "3||whload: flow.toml node 1 kind 0: absent\n",
+    ),
+    (INTS, "table = 7\n", "3||whload: flow.toml is not TOML\n"),
+    (INTS, SORT, "3||whload: flow.toml is not built yet\n"),
+    ("\"a text\"", "", "3||whload: flow.toml is not built yet\n"),
+];
 
 #[test]
 fn the_first_fault_of_a_flow_is_told(rt: HostRuntime) -> Result<(), Fail> {
-    let columns = "\"a int\", \"b int\"";
-    let sort = "node = [ { name = \"up\", kind = \"sort\", input = \"nums\", by = [\"a\"] } ]\n";
-    for (columns, more, note) in [
-        (
-            "\"a int\", \"B int\"",
-            "",
-            "flow.toml source 1 columns 2: bad name",
-        ),
-        (
-            "\"a int\", \"b whole\"",
-            "",
-            "flow.toml source 1 columns 2: bad word",
-        ),
-        ("", "", "flow.toml source 1 columns 0: empty"),
-        (columns, "more = 1\n", "flow.toml top 0 more 0: unknown"),
-        (columns, "node = 7\n", "flow.toml top 0 node 0: not a list"),
-        (
-            columns,
-            "node = [ 7 ]\n",
-            "flow.toml top 0 node 1: not a table",
-        ),
-        (
-            columns,
-            "node = [ { name = \"up\" } ]\n",
-            "flow.toml node 1 kind 0: absent",
-        ),
-        (columns, "table = 7\n", "flow.toml is not TOML"),
-        (columns, sort, "flow.toml is not built yet"),
-        ("\"a text\"", "", "flow.toml is not built yet"),
-    ] {
-        let flow = flow_with(&rt, columns, more)?;
-        let mut on = prepare(&rt, Some(flow.as_str()), Some(THREE), b"")?;
-        let ending = load(&rt, &mut on)?;
-        let line = format!(in rt.alloc(); "whload: {note}\n")?;
-        is_refused(&rt, &ending, &on, Status::Schema, line.as_str());
-        assert_eq!(rt; on.disk.bytes(), b"".as_slice());
+    for (columns, more, answer) in REFUSED {
+        let left = load_with(rt.alloc(), columns, more)?;
+        assert_eq!(rt; left.said.as_str(), answer);
+        assert_eq!(rt; left.table.len(), 0);
     }
     Ok(())
+}
+
+// The flow, and a comment up to so many bytes.
+fn long_flow(alloc: Global, len: usize) -> Result<String, Fail> {
+    let mut flow = String::from_str(alloc, FLOW)?;
+    for _ in flow.len()..len {
+        flow.push('#')?;
+    }
+    Ok(flow)
 }
 
 #[test]
 fn a_missing_or_long_flow_is_refused(rt: HostRuntime) -> Result<(), Fail> {
-    let mut on = prepare(&rt, None, Some(THREE), b"")?;
-    let ending = load(&rt, &mut on)?;
-    is_refused(
-        &rt,
-        &ending,
-        &on,
-        Status::Schema,
-        "whload: flow.toml is missing\n",
+    let left = load(rt.alloc(), None, Some(THREE), b"")?;
+    assert_eq!(rt; left.said.as_str(), "3||whload: flow.toml is missing\n");
+    let flow = long_flow(rt.alloc(), 65_537)?;
+    let left = load(rt.alloc(), Some(flow.as_str()), Some(THREE), b"")?;
+    assert_eq!(rt;
+        left.said.as_str(),
+        "3||whload: flow.toml has 65537 bytes\n"
     );
-    let mut flow = String::from_str(rt.alloc(), FLOW)?;
-    for _ in flow.len()..65_536 {
-        flow.push('#')?;
-    }
-    let mut on = prepare(&rt, Some(flow.as_str()), Some(THREE), b"")?;
-    let ending = load(&rt, &mut on)?;
-    is_done(&rt, &ending, &on, "complete\nbefore 0\nadded 3\n");
-    flow.push('#')?;
-    let mut on = prepare(&rt, Some(flow.as_str()), Some(THREE), b"")?;
-    let ending = load(&rt, &mut on)?;
-    let note = "whload: flow.toml has 65537 bytes\n";
-    is_refused(&rt, &ending, &on, Status::Schema, note);
-    assert_eq!(rt; on.disk.bytes(), b"".as_slice());
+    assert_eq!(rt; left.table.len(), 0);
     Ok(())
 }
 
 #[test]
+fn a_flow_of_the_greatest_length_is_loaded(rt: HostRuntime) -> Result<(), Fail> {
+    let flow = long_flow(rt.alloc(), 65_536)?;
+    let left = load(rt.alloc(), Some(flow.as_str()), Some(THREE), b"")?;
+    assert_eq!(rt; left.said.as_str(), DONE);
+    Ok(())
+}
+
+fn command_of(alloc: Global, words: &[&str]) -> Result<Left, Fail> {
+    let depot = folder(alloc, Some(FLOW), Some(THREE))?;
+    let disk = MemoryDisk::new(alloc, b"")?;
+    let out = MemorySink::new(alloc);
+    command(alloc, words, depot, disk, out, MemorySink::new(alloc))
+}
+
+#[test]
 fn other_words_are_no_command(rt: HostRuntime) -> Result<(), Fail> {
-    let note =
-        "whload: usage: whload load DIR [--batch N], explain DIR, check DIR, dump DIR, pack DIR SOURCE, drill N\n";
+    let answer =
+        "2||whload: usage: whload load DIR [--batch N], explain DIR, check DIR, dump DIR, pack DIR SOURCE, drill N\n";
     let none: &[&str] = &[];
     for words in [
         none,
@@ -239,106 +263,106 @@ fn other_words_are_no_command(rt: HostRuntime) -> Result<(), Fail> {
         &["Load", "d"],
         &["dump", "d"],
     ] {
-        let mut on = prepare(&rt, Some(FLOW), Some(THREE), b"")?;
-        let ending = command(&rt, &mut on, words)?;
-        is_refused(&rt, &ending, &on, Status::Usage, note);
-        assert_eq!(rt; ending.status.code(), 2);
-        assert_eq!(rt; on.depot.served(), 0);
+        let left = command_of(rt.alloc(), words)?;
+        assert_eq!(rt; left.said.as_str(), answer);
+        assert_eq!(rt; left.served, 0);
     }
     Ok(())
 }
 
-// Each call of each device fails in turn, until none is left that the load makes.
+fn load_where_the_depot_fails(alloc: Global, call: u64) -> Result<Left, Fail> {
+    let mut depot = folder(alloc, Some(FLOW), Some(THREE))?;
+    depot.fail_at(call)?;
+    load_over(alloc, depot, MemoryDisk::new(alloc, b"")?)
+}
+
+// Each of the depot's calls fails in turn, and then none that the load makes.
 #[test]
-fn a_device_that_fails_is_named(rt: HostRuntime) -> Result<(), Fail> {
-    for call in 1..6 {
-        let mut on = prepare(&rt, Some(FLOW), Some(THREE), b"")?;
-        on.depot.fail_at(call)?;
-        let ending = load(&rt, &mut on)?;
-        if call < 5 {
-            is_refused(
-                &rt,
-                &ending,
-                &on,
-                Status::Device,
-                "whload: a source file failed\n",
-            );
-            assert_eq!(rt; on.disk.bytes(), b"".as_slice());
-        } else {
-            is_done(&rt, &ending, &on, "complete\nbefore 0\nadded 3\n");
-        }
+fn a_depot_that_fails_is_named(rt: HostRuntime) -> Result<(), Fail> {
+    for call in 1..5 {
+        let left = load_where_the_depot_fails(rt.alloc(), call)?;
+        assert_eq!(rt; left.said.as_str(), "5||whload: a source file failed\n");
+        assert_eq!(rt; left.table.len(), 0);
     }
-    // The size twice, six calls to make the table, four for each of two blocks.
-    for call in 1..18 {
-        let mut on = prepare(&rt, Some(FLOW), Some(THREE), b"")?;
-        on.disk.fail_at(call)?;
-        let ending = load(&rt, &mut on)?;
-        if call < 17 {
-            is_refused(
-                &rt,
-                &ending,
-                &on,
-                Status::Device,
-                "whload: the table file failed\n",
-            );
-            assert_eq!(rt; ending.status.code(), 5);
-        } else {
-            is_done(&rt, &ending, &on, "complete\nbefore 0\nadded 3\n");
-        }
+    let left = load_where_the_depot_fails(rt.alloc(), 5)?;
+    assert_eq!(rt; left.said.as_str(), DONE);
+    Ok(())
+}
+
+fn load_where_the_disk_fails(alloc: Global, call: u64) -> Result<Left, Fail> {
+    let depot = folder(alloc, Some(FLOW), Some(THREE))?;
+    let mut disk = MemoryDisk::new(alloc, b"")?;
+    disk.fail_at(call)?;
+    load_over(alloc, depot, disk)
+}
+
+// The size twice, six calls to make the table, four for each of two blocks.
+#[test]
+fn a_disk_that_fails_is_named(rt: HostRuntime) -> Result<(), Fail> {
+    for call in 1..17 {
+        let left = load_where_the_disk_fails(rt.alloc(), call)?;
+        assert_eq!(rt; left.said.as_str(), "5||whload: the table file failed\n");
     }
+    let left = load_where_the_disk_fails(rt.alloc(), 17)?;
+    assert_eq!(rt; left.said.as_str(), DONE);
     Ok(())
 }
 
 #[test]
 fn a_failed_output_leaves_the_table_ended(rt: HostRuntime) -> Result<(), Fail> {
-    let mut on = prepare(&rt, Some(FLOW), Some(THREE), b"")?;
-    on.out.fail_at(1)?;
-    let ending = load(&rt, &mut on)?;
-    is_refused(
-        &rt,
-        &ending,
-        &on,
-        Status::Device,
-        "whload: the output failed\n",
-    );
-    assert_eq!(rt;
-        blocks(&rt, &on, FLOW)?.as_str().strip_prefix(THREE_ROWS),
-        Some(END)
-    );
+    let alloc = rt.alloc();
+    let depot = folder(alloc, Some(FLOW), Some(THREE))?;
+    let disk = MemoryDisk::new(alloc, b"")?;
+    let mut out = MemorySink::new(alloc);
+    out.fail_at(1)?;
+    let notes = MemorySink::new(alloc);
+    let left = command(alloc, &["load", "d"], depot, disk, out, notes)?;
+    assert_eq!(rt; left.said.as_str(), "5||whload: the output failed\n");
+    let blocks = blocks(alloc, &left, FLOW)?;
+    assert_eq!(rt; blocks.as_str().strip_prefix(THREE_ROWS), Some(END));
     Ok(())
 }
 
 #[test]
 fn a_failed_note_changes_no_status(rt: HostRuntime) -> Result<(), Fail> {
-    let mut on = prepare(&rt, None, None, b"")?;
-    on.notes.fail_at(1)?;
-    let ending = load(&rt, &mut on)?;
-    is_refused(&rt, &ending, &on, Status::Schema, "");
-    assert_eq!(rt; ending.status.code(), 3);
+    let alloc = rt.alloc();
+    let depot = folder(alloc, None, None)?;
+    let disk = MemoryDisk::new(alloc, b"")?;
+    let mut notes = MemorySink::new(alloc);
+    notes.fail_at(1)?;
+    let out = MemorySink::new(alloc);
+    let left = command(alloc, &["load", "d"], depot, disk, out, notes)?;
+    assert_eq!(rt; left.said.as_str(), "3||");
     Ok(())
+}
+
+// A source of so many rows.
+fn rows(alloc: Global, count: u32) -> Result<String, Fail> {
+    let mut nums = String::from_str(alloc, "a,b\n")?;
+    for i in 0..count {
+        writeln!(nums, "{i},-{i}")?;
+    }
+    Ok(nums)
 }
 
 // A program that always gives up for want of memory meets every clause, and fails this.
 #[test]
 fn ample_memory_is_never_memory(rt: HostRuntime) -> Result<(), Fail> {
-    let mut nums = String::from_str(rt.alloc(), "a,b\n")?;
-    for i in 0..1000u32 {
-        writeln!(nums, "{i},-{i}")?;
-    }
-    let mut on = prepare(&rt, Some(FLOW), Some(nums.as_str()), b"")?;
-    let ending = load(&rt, &mut on)?;
-    is_done(&rt, &ending, &on, "complete\nbefore 0\nadded 1000\n");
-    assert_eq!(rt; on.disk.starved(), 0);
-    nums.push_str("7,7\n")?;
-    let mut on = prepare(&rt, Some(FLOW), Some(nums.as_str()), b"")?;
-    let ending = load(&rt, &mut on)?;
-    let note = "whload: source file is not built yet\n";
-    is_refused(&rt, &ending, &on, Status::Source, note);
+    let nums = rows(rt.alloc(), 1000)?;
+    let left = load(rt.alloc(), Some(FLOW), Some(nums.as_str()), b"")?;
+    assert_eq!(rt; left.said.as_str(), "0|complete\nbefore 0\nadded 1000\n|");
+    assert_eq!(rt; left.starved, 0);
+    Ok(())
+}
+
+#[test]
+fn more_rows_are_not_built_yet(rt: HostRuntime) -> Result<(), Fail> {
+    let nums = rows(rt.alloc(), 1001)?;
+    let left = load(rt.alloc(), Some(FLOW), Some(nums.as_str()), b"")?;
     assert_eq!(rt;
-        ending.reason,
-        Some(Reason::NotBuilt {
-            what: Unbuilt::Source
-        })
+        left.said.as_str(),
+        "4||whload: source file is not built yet\n"
     );
+    assert_eq!(rt; left.table.len(), 0);
     Ok(())
 }
