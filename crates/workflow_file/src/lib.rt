@@ -15,12 +15,10 @@ mod flow;
 mod keys;
 mod node;
 mod part;
-mod plain;
 mod raw;
 mod rule;
 mod sections;
 
 pub use fault::{FlowFault, Lack, Place, Section};
 pub use flow::read_flow;
-pub use plain::{PlainFlow, plain_flow};
 pub use raw::{RawFlow, RawNode, RawNodes, RawSource, RawSources, RawTable};
