@@ -1,0 +1,17 @@
+//! What a flow means on whole lists: the list that each kind makes of the lists of its inputs.
+//!
+//! Stands on `flow_types`, whose nodes it gives their meaning, and on `expr_lang`. `load_runner` loads
+//! what `whole` makes of the sources. Read `specs/Outputs.antt` first, one equation for each kind, then
+//! `specs/Wholes.antt`, the meaning of a flow.
+//!
+//! Promised: `Transform::out` is the kind's equation on every list whose rows fit the input, and `whole`
+//! is the meaning of the flow.
+//! Not promised: that memory is found.
+#![tactic(auto)]
+
+mod evaluation;
+mod kinds;
+mod transform;
+
+pub use evaluation::whole;
+pub use transform::{Law, Transform};
