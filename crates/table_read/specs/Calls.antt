@@ -15,16 +15,6 @@ use Rattle.row_codec.specs.Decoding.{row_at}
 use Rattle.table_read.specs.declared.blocks.BlockHead.{BlockHead}
 use Rattle.table_read.specs.Rows.{or_place, next_gate}
 
--- the disk was only read
-pub record OnlyRead {D : Type 0} (len : D → ℕ) (honest : D → Bool) (seen : D → List ℕ) (may_leave : D → List ℕ → Type 0) (clock : D → ℕ) (left_at : D → ℕ → List ℕ → Type 0) (faults : D → ℕ) (old new : D) : Type 0 where
-  pub same_len : len new ≡ len old
-  pub still_honest : honest new ≡ honest old
-  pub same_file : IsTrue (honest old) → seen new ≡ seen old
-  pub same_images : IsTrue (honest old) → SameImages (may_leave old) (may_leave new)
-  pub time : IsTrue (honest old) → GoesOn (clock old) (clock new) (left_at old) (left_at new)
-  pub nothing_new : IsTrue (honest old) → NothingNew (clock old) (clock new) (left_at new) (may_leave old)
-  pub later : faults old ≤ faults new
-
 -- what the row at the front of the bytes tells: how many bytes it takes, or that there is none
 abbrev pub RowTells : List Column → ℕ → List ℕ → Result ℕ (Stop TableFault) → Type 0
 RowTells columns place bytes (Ok len) = (row : List Value) × (row_at columns bytes ≡ Ok (row, drop len bytes)) × (length (row_bytes row) ≡ len) × (len ≤ length bytes)
