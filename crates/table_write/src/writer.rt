@@ -152,10 +152,11 @@ impl Writer {
         ensures honest { K.honest disk.new ≡ K.honest disk.old }
         ensures room { self.old ≤ self.new }
     {
-        let mut done = 0;
-        while done < rows.len() {
-            done += fill(&mut self.block, &mut self.row, schema, &rows[done..], batch);
+        let mut rest = rows;
+        while !rest.is_empty() {
+            let count = fill(&mut self.block, &mut self.row, schema, rest, batch);
             commit_block(journal, disk, &self.block)?;
+            rest = rest.split_at(count).1;
         }
         Ok(())
     }
