@@ -150,3 +150,39 @@ module _ {D : Type 0} (len : D → ℕ) (honest : D → Bool) (seen : D → List
   -- and all had room
   pub all_had_room : (rest : List Rows) (now : JournalState) (new : D) → rest ≡ [] → SoFar rest now new → (count : ℕ) → count < length blocks → HasRoom before.gate blocks count
   all_had_room rest now new none so_far count below = so_far.have_room count (omega (arith, below, ap length so_far.split, length-append so_far.taken rest, ap length none))
+
+  module _ (now : JournalState) (new : D) (added : HasAdded len honest seen may_leave columns blocks before now old new) where
+    -- while the end block is added behind all blocks, whatever comes of it
+    pub leaves_end : (last : D) → honest new ≡ honest old → OfTables (λ text olds. LeavesFronts text columns olds blocks (clock old) (clock new) (left_at new))
+        → (IsTrue (honest new) → IsSettled (seen new) (may_leave new) → LeavesEnd now.gate (seen new) (LeftBetween (clock new) (clock last) (left_at last)))
+        → (IsTrue (honest new) → IsSettled (seen new) (may_leave new) → (text : List ℕ) (olds : List Stored) → HoldsUpTo now.gate (seen new) text olds false → Grows text (clock new) (clock last) (left_at last))
+        → (IsTrue (honest new) → GoesOn (clock new) (clock last) (left_at new) (left_at last))
+        → OfTables (λ text olds. LeavesFronts text columns olds blocks (clock old) (clock last) (left_at last))
+    leaves_end last same_honest leaves ends grows time is_honest settled text olds held =
+        let still = same_honest ∙ is_honest in
+        let settled_now = added.settled is_honest settled in
+        let was = leaves is_honest settled text olds held in
+        let here = added.holds is_honest text olds held in
+        let all = sym (append-nil blocks) in
+        record {
+          each = each_on (clock old) (clock new) (clock last) (left_at new) (left_at last) (IsFront text columns olds blocks) (time still) was.each
+              (λ image left_it. ⊎_elim
+              (λ holds. front_at text columns olds blocks blocks [] all added.of_columns false image (λ _. refl) holds)
+              (λ holds. front_at text columns olds blocks blocks [] all added.of_columns true image (λ _. refl) holds)
+              (ends still settled_now text (with_blocks olds blocks) here image left_it));
+          grows = grows_on (clock old) (clock new) (clock last) (left_at new) (left_at last) text (time still) was.grows (grows still settled_now text (with_blocks olds blocks) here);
+        }
+
+    -- where there was no room for it
+    pub filled_at_end : ((count : ℕ) → count < length blocks → HasRoom before.gate blocks count) → 2 ^ 48 < now.gate + 11 → IsFilled len honest seen may_leave columns blocks before now old new
+    filled_at_end have_room none =
+        let all : blocks ≡ take (length blocks) blocks = sym (ap (λ (bs : List Rows). take (length blocks) bs) (sym (append-nil blocks)) ∙ take_at blocks [] (length blocks) refl) in
+        record {
+          count = length blocks;
+          full = record {
+            within = omega arith;
+            before = have_room;
+            none = λ has. omega (arith, has, needed_at_end before.gate blocks blocks refl, none, ap (λ (j : JournalState). j.gate) added.moved);
+          };
+          added = subst (λ (bs : List Rows). HasAdded len honest seen may_leave columns bs before now old new) all added;
+        }

@@ -3,3 +3,4 @@ pub mod Rows
 pub mod Moments
 pub mod Fronts
 pub mod Adding
+pub mod BlockRows

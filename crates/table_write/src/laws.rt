@@ -1,12 +1,13 @@
 // What holds of rows that are written in blocks.
-ghost use Rattle.std.specs.Prelude.{◌≡◌, ◌≤◌, ◌+◌, ◌++◌, ℕ, List, length, take, Ok};
+ghost use Rattle.std.specs.Prelude.{◌≡◌, ◌≤◌, ◌+◌, ◌++◌, ℕ, List, length, All, Bool, Ok};
 ghost use Rattle.tuple_schema.specs.declared.value.Value.{Value};
 ghost use Rattle.tuple_schema.specs.declared.schema.Column.{Column};
-ghost use Rattle.commit_disk.specs.Table.{Stored};
+ghost use Rattle.row_codec.specs.Decoding.{IsRowOf};
+ghost use Rattle.commit_disk.specs.Table.{Stored, Holds};
 ghost use Rattle.table_read.specs.Rows.{table_rows};
 ghost use Rattle.table_write.specs.Cut.{IsCut, cut, together};
 ghost use Rattle.table_write.specs.Rows.{HoldsRows};
-ghost use Rattle.table_write.specs.Adds.{IsFront};
+ghost use Rattle.table_write.specs.Adds.{with_blocks};
 
 use table_read::rows_laws;
 
@@ -16,12 +17,12 @@ pub fn cut_laws()
     ensures only { (batch : ℕ) (rows : List (List Value)) (blocks : List (List (List Value))) → 1 ≤ batch → IsCut batch rows blocks → blocks ≡ cut batch rows }
 {}
 
-/// Where the old blocks have rows, an image with the first of the new ones behind them holds these
-/// rows and those of the new ones. It does nothing: its contract is the law.
-pub fn front_laws()
-    ensures { (image text : List ℕ) (columns : List Column) (olds : List Stored) (blocks : List (List (List Value))) (rows : List (List Value)) →
-        table_rows columns (16 + length text) olds ≡ Ok rows → (front : IsFront text columns olds blocks image) →
-        HoldsRows image text columns (rows ++ together (take front.count blocks)) front.ended }
+/// Where the old blocks have rows, a table with these new ones behind them holds the rows of both.
+/// It does nothing: its contract is the law.
+pub fn blocks_laws()
+    ensures holds_rows { (image text : List ℕ) (columns : List Column) (olds : List Stored) (blocks : List (List (List Value))) (rows : List (List Value)) (ended : Bool) →
+        table_rows columns (16 + length text) olds ≡ Ok rows → Holds image text (with_blocks olds blocks) ended → All (IsRowOf columns) (together blocks) →
+        HoldsRows image text columns (rows ++ together blocks) ended }
 {
     rows_laws();
 }

@@ -14,5 +14,8 @@ mod fill;
 mod laws;
 mod writer;
 
-pub use laws::{cut_laws, front_laws};
+pub use laws::{blocks_laws, cut_laws};
 pub use writer::{WriteFault, Writer};
+
+#[cfg(test)]
+mod tests;
