@@ -55,12 +55,14 @@ module _ (columns : List Column) where
     refl,
   )
 
-  pub blocks_hold : ((gate : ℕ) (blocks : List Stored) (rows : Rows) → StoreAll columns blocks rows → table_rows columns gate blocks ≡ Ok rows)
-      → (image text : List ℕ) (olds : List Stored) (blocks : List Rows) (rows : Rows) (ended : Bool) → table_rows columns (16 + length text) olds ≡ Ok rows → Holds image text (with_blocks olds blocks) ended
-      → All (IsRowOf columns) (together blocks) → HoldsRows image text columns (rows ++ together blocks) ended
-  blocks_hold reads image text olds blocks rows ended e holds of_columns =
-      inl (record {
-        blocks = with_blocks olds blocks;
-        holds = holds;
-        decodes = read_on columns (16 + length text) olds (map stored_of blocks) rows (together blocks) (λ place. reads place (map stored_of blocks) (together blocks) (blocks_store blocks of_columns)) e;
-      })
+
+pub blocks_hold : ((columns : List Column) (gate : ℕ) (blocks : List Stored) (rows : Rows) → StoreAll columns blocks rows → table_rows columns gate blocks ≡ Ok rows)
+    → (image text : List ℕ) (columns : List Column) (olds : List Stored) (blocks : List Rows) (rows : Rows) (ended : Bool) → table_rows columns (16 + length text) olds ≡ Ok rows
+    → Holds image text (with_blocks olds blocks) ended → All (IsRowOf columns) (together blocks) → HoldsRows image text columns (rows ++ together blocks) ended
+blocks_hold reads image text columns olds blocks rows ended e holds of_columns =
+    inl (record {
+      blocks = with_blocks olds blocks;
+      holds = holds;
+      decodes = read_on columns (16 + length text) olds (map stored_of blocks) rows (together blocks)
+          (λ place. reads columns place (map stored_of blocks) (together blocks) (blocks_store columns blocks of_columns)) e;
+    })

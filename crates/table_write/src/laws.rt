@@ -20,7 +20,7 @@ pub fn cut_laws()
 /// Where the old blocks have rows, a table with these new ones behind them holds the rows of both.
 /// It does nothing: its contract is the law.
 pub fn blocks_laws()
-    ensures holds_rows { (image text : List ℕ) (columns : List Column) (olds : List Stored) (blocks : List (List (List Value))) (rows : List (List Value)) (ended : Bool) →
+    ensures { (image text : List ℕ) (columns : List Column) (olds : List Stored) (blocks : List (List (List Value))) (rows : List (List Value)) (ended : Bool) →
         table_rows columns (16 + length text) olds ≡ Ok rows → Holds image text (with_blocks olds blocks) ended → All (IsRowOf columns) (together blocks) →
         HoldsRows image text columns (rows ++ together blocks) ended }
 {
