@@ -1,19 +1,17 @@
 -- Adding blocks, one after the other.
-use Rattle.std.proofs.Common.{◌≡◌, ◌⊎◌, inl, inr, ⊎_elim, ◌≤◌, ◌<◌, ◌+◌, ◌^◌, ℕ, List, [], ◌∷◌, ◌++◌, length, take, Bool, true, false, IsTrue, All, refl, sym, ap, subst, ◌∙◌, arith, append_assoc, length-append}
+use Rattle.std.proofs.Common.{◌≡◌, inl, inr, ⊎_elim, ◌≤◌, ◌<◌, ◌+◌, ◌^◌, ℕ, List, [], ◌∷◌, ◌++◌, length, take, Bool, true, false, IsTrue, All, refl, sym, ap, subst, ◌∙◌, arith, append_assoc, length-append}
 use Rattle.std.proofs.lemmas.Bool.{true≢false, cases_lt}
 use Rattle.std.proofs.lemmas.List.{append-nil, take_at}
 use Rattle.std.proofs.lemmas.List.Elements.{All-append, All-nil}
 use Rattle.outside.specs.Images.{SameImages}
-use Rattle.tuple_schema.specs.declared.value.Value.{Value}
 use Rattle.tuple_schema.specs.declared.schema.Column.{Column}
-use Rattle.row_codec.specs.Rows.{rows_bytes}
 use Rattle.row_codec.specs.Decoding.{IsRowOf}
 use Rattle.commit_disk.specs.Table.{Stored, Holds, HoldsUpTo}
 use Rattle.commit_disk.specs.Journal.{JournalState, after_block, Commits}
-use Rattle.commit_disk.specs.Crashes.{IsSettled, LeftBetween, Each, GoesOn, LeavesWhole, LeavesEnd, IsBeforeOrAfter, Grows}
+use Rattle.commit_disk.specs.Crashes.{IsSettled, LeftBetween, GoesOn, LeavesWhole, LeavesEnd, Grows}
 use Rattle.table_write.specs.Cut.{together}
 use Rattle.table_write.specs.Rows.{stored_of}
-use Rattle.table_write.specs.Adds.{with_blocks, IsFront, LeavesFronts, behind, HasRoom, AllHaveRoom, IsFullBehind, HasAdded, IsFilled}
+use Rattle.table_write.specs.Adds.{with_blocks, IsFront, LeavesFronts, HasRoom, HasAdded, IsFilled}
 use Rattle.table_write.proofs.Moments.{goes_on, each_on, grows_on, goes_nowhere, each_at, grows_at}
 use Rattle.table_write.proofs.Fronts.{Rows, with_none, behind_none, with_more, together_more, behind_more, needed, needed_at_end, front_at}
 

@@ -1,13 +1,12 @@
 -- What a table with new blocks holds, in rows.
-use Rattle.std.proofs.Common.{◌≡◌, inl, ◌<◌, ◌+◌, ℕ, List, [], ◌∷◌, ◌++◌, length, drop, map, Result, Ok, Err, All, Bool, refl, sym, ap, subst, ◌∙◌, arith, append_assoc, length-append}
+use Rattle.std.proofs.Common.{◌≡◌, inl, ◌+◌, ℕ, List, [], ◌∷◌, ◌++◌, length, map, Result, Ok, Err, All, Bool, refl, sym, ap, subst, ◌∙◌, arith, append_assoc, length-append}
 use Rattle.std.proofs.lemmas.List.{get_or_append_left, drop_at}
 use Rattle.std.proofs.lemmas.List.Elements.{All-drop}
-use Rattle.tuple_schema.specs.declared.value.Value.{Value}
 use Rattle.tuple_schema.specs.declared.schema.Column.{Column}
 use Rattle.tuple_schema.specs.Stops.{◌>>=◌}
 use Rattle.row_codec.specs.Decoding.{IsRowOf}
 use Rattle.commit_disk.specs.Table.{Stored, Holds}
-use Rattle.table_read.specs.Rows.{block_rows, next_gate, table_rows, Stores, StoreAll}
+use Rattle.table_read.specs.Rows.{block_rows, next_gate, table_rows, StoreAll}
 use Rattle.table_write.specs.Cut.{together}
 use Rattle.table_write.specs.Rows.{stored_of, HoldsRows}
 use Rattle.table_write.specs.Adds.{with_blocks}
@@ -54,7 +53,6 @@ module _ (columns : List Column) where
     blocks_store blocks (of_back block (together blocks) are),
     refl,
   )
-
 
 pub blocks_hold : ((columns : List Column) (gate : ℕ) (blocks : List Stored) (rows : Rows) → StoreAll columns blocks rows → table_rows columns gate blocks ≡ Ok rows)
     → (image text : List ℕ) (columns : List Column) (olds : List Stored) (blocks : List Rows) (rows : Rows) (ended : Bool) → table_rows columns (16 + length text) olds ≡ Ok rows

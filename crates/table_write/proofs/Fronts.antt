@@ -1,8 +1,6 @@
 -- Fronts of the blocks that are added.
-use Rattle.std.proofs.Common.{◌≡◌, ◌⊎◌, inl, inr, ⊎_elim, ◌≤◌, ◌<◌, ◌+◌, ◌^◌, ℕ, List, [], ◌∷◌, ◌++◌, length, take, get_or, map, Bool, true, false, IsTrue, All, refl, sym, ap, subst, ◌∙◌, arith, append_assoc, length-append}
-use Rattle.std.proofs.lemmas.Bool.{true≢false, cases_lt}
-use Rattle.std.proofs.lemmas.List.{append-nil, take_at, take-append-le, get_or_at, get_or_append_left, get_or_past, map-append}
-use Rattle.std.proofs.lemmas.List.Elements.{All-append}
+use Rattle.std.proofs.Common.{◌≡◌, ◌+◌, ℕ, List, [], ◌∷◌, ◌++◌, length, take, get_or, map, Bool, IsTrue, All, refl, sym, ap, subst, ◌∙◌, arith, append_assoc, length-append}
+use Rattle.std.proofs.lemmas.List.{append-nil, take_at, get_or_at, get_or_past, map-append}
 use Rattle.std.proofs.lemmas.List.Concat.{flat_map-append}
 use Rattle.std.proofs.lemmas.List.Sums.{sum_by-append}
 use Rattle.std.specs.List.{sum_by}
@@ -12,10 +10,9 @@ use Rattle.row_codec.specs.Rows.{rows_bytes}
 use Rattle.row_codec.specs.Decoding.{IsRowOf}
 use Rattle.commit_disk.specs.Table.{Stored, Holds}
 use Rattle.commit_disk.specs.Journal.{JournalState, after_block}
-use Rattle.commit_disk.specs.Crashes.{IsBeforeOrAfter, IsEndedOrNot}
 use Rattle.table_write.specs.Cut.{together}
 use Rattle.table_write.specs.Rows.{stored_of}
-use Rattle.table_write.specs.Adds.{with_blocks, IsFront, size_of, behind, next_block, HasRoom}
+use Rattle.table_write.specs.Adds.{with_blocks, IsFront, size_of, behind, next_block}
 
 -- a block of rows
 abbrev pub Rows : Type 0

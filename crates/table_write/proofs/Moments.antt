@@ -1,8 +1,8 @@
 -- What a crash may leave, from one call to the next.
-use Rattle.std.proofs.Common.{◌≡◌, ◌≤◌, inl, inr, ℕ, List, subst, sym, arith}
+use Rattle.std.proofs.Common.{◌≡◌, inl, inr, ℕ, List, subst, sym, arith}
 use Rattle.std.proofs.lemmas.Bool.{cases_lt}
 use Rattle.outside.specs.Images.{SameImages}
-use Rattle.commit_disk.specs.Crashes.{IsSettled, LeftBetween, Each, GoesOn, HasStill, Grows}
+use Rattle.commit_disk.specs.Crashes.{IsSettled, LeftBetween, Each, GoesOn, Grows}
 
 module _ (first middle last : ℕ) (left now : ℕ → List ℕ → Type 0) where
   -- one call and then more

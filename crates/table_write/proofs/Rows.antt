@@ -1,7 +1,6 @@
 -- One row more in a block.
-use Rattle.std.proofs.Common.{◌≡◌, ◌<◌, ◌+◌, ℕ, List, [], ◌∷◌, ◌++◌, length, take, drop, get_or, refl, sym, ap, subst, ◌∙◌, arith, length-append, All}
+use Rattle.std.proofs.Common.{◌≡◌, ◌<◌, ◌+◌, ℕ, List, [], ◌∷◌, ◌++◌, length, take, drop, get_or, sym, ap, ◌∙◌, length-append}
 use Rattle.std.proofs.lemmas.List.{take_more, drop_more, append-nil}
-use Rattle.std.proofs.lemmas.List.Elements.{All-push}
 use Rattle.std.proofs.lemmas.List.Concat.{flat_map-append}
 use Rattle.tuple_schema.specs.declared.value.Value.{Value}
 use Rattle.row_codec.specs.Rows.{row_bytes, rows_bytes}

@@ -72,7 +72,10 @@ const NO_ROWS: [u8; 28] = *b"\x01WHTABLE\0\0\0\x01\0\0\0\x01x\
 fn three_rows_make_two_blocks_of_two_and_one(rt: HostRuntime) -> Result<(), Fail> {
     let alloc = rt.alloc();
     let mut disk = MemoryDisk::new(alloc, &[])?;
-    assert_eq!(rt; written(alloc, &mut disk, &[1, 2, 3], 7, Torn::All)?, Ok(()));
+    assert_eq!(rt;
+        written(alloc, &mut disk, &[1, 2, 3], 7, Torn::All)?,
+        Ok(())
+    );
     assert_eq!(rt; disk.bytes(), THREE_ROWS.as_slice());
     Ok(())
 }

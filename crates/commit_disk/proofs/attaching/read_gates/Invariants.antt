@@ -1,4 +1,4 @@
-use Rattle.std.proofs.Common.{◌≡◌, ◌<◌, ◌≤◌, ◌+◌, ◌-◌, [], ℕ, List, length, false, IsTrue}
+use Rattle.std.proofs.Common.{◌≡◌, ◌<◌, ◌+◌, ◌-◌, [], ℕ, List, length, false, IsTrue}
 use Rattle.commit_disk.specs.Attach.{LeadsTo}
 use Rattle.commit_disk.specs.Frames.{OnlyRead, IsOnTheWay}
 use Rattle.commit_disk.proofs.attaching.read_gates.Given as goal

@@ -1,4 +1,4 @@
-use Rattle.std.proofs.Common.{length, ◌-◌, ◌≡◌, ◌≤◌, ◌<◌, ◌*◌, ◌∷◌, ℕ, List, take, drop, All, ◌+◌}
+use Rattle.std.proofs.Common.{length, ◌-◌, ◌≡◌, ◌≤◌, take, drop, All}
 use Rattle.std.specs.Vec.{vec_capacity}
 use Rattle.row_codec.specs.Decoding.{IsRowOf}
 use Rattle.table_write.specs.Cut.{cut, cut_on}

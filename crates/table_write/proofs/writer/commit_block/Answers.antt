@@ -1,5 +1,4 @@
 use Rattle.table_write.proofs.Moments.{grows_at}
-use Rattle.table_write.proofs.Fronts.{front_at}
 use Rattle.table_write.proofs.writer.commit_block.Goals as goal
 
 pub returns-then-not-fits-clause-grows : goal.returns-then-not-fits-clause-grows

@@ -1,4 +1,4 @@
-use Rattle.std.proofs.Common.{◌∙◌, ◌<◌, ◌+◌, ◌^◌, inl, inr, All, sym, subst, arith}
+use Rattle.std.proofs.Common.{◌<◌, ◌+◌, ◌^◌, inl, inr, All, sym, subst, arith}
 use Rattle.std.proofs.lemmas.Bool.{cases_lt, iff_false}
 use Rattle.row_codec.specs.Decoding.{IsRowOf}
 use Rattle.table_write.specs.Cut.{cut}

@@ -1,4 +1,4 @@
-use Rattle.std.proofs.Common.{◌≡◌, ◌∙◌, ◌≤◌, ◌<◌, ◌+◌, ◌∷◌, [], ℕ, List, take, drop, length, ap, sym, subst, arith, Result, Err, All}
+use Rattle.std.proofs.Common.{◌≡◌, ◌∙◌, List, take, drop, length, ap, sym, subst, arith, Err, All}
 use Rattle.std.proofs.lemmas.Bool.{eqb-true}
 use Rattle.std.proofs.lemmas.List.{nil_from_length}
 use Rattle.std.proofs.lemmas.List.Elements.{All-drop}

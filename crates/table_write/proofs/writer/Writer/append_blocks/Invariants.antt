@@ -1,4 +1,4 @@
-use Rattle.std.proofs.Common.{length, ◌≤◌, ℕ, All}
+use Rattle.std.proofs.Common.{length, ◌≤◌, All}
 use Rattle.std.specs.Vec.{vec_capacity}
 use Rattle.tuple_schema.specs.Schemas.{Fits}
 use Rattle.table_write.specs.Cut.{cut}
