@@ -13,14 +13,14 @@ use Rattle.table_write.specs.Adds.{with_blocks}
 use Rattle.table_write.proofs.Fronts.{Rows}
 
 -- the value of a step that did not fail
-bind_ok : {A B F : Type 0} (r : Result A F) (f : A → Result B F) (y : B) → (r >>= f) ≡ Ok y → (x : A) × (r ≡ Ok x) × (f x ≡ Ok y)
+pub bind_ok : {A B F : Type 0} (r : Result A F) (f : A → Result B F) (y : B) → (r >>= f) ≡ Ok y → (x : A) × (r ≡ Ok x) × (f x ≡ Ok y)
 bind_ok (Ok x) f y e = (x, refl, e)
 bind_ok (Err d) f y e = absurd cc
 
-abbrev rows_done : Rows → Result Rows ℕ
+abbrev pub rows_done : Rows → Result Rows ℕ
 rows_done rows = Ok rows
 
-rows_is : (xs ys : Rows) → rows_done xs ≡ rows_done ys → xs ≡ ys
+pub rows_is : (xs ys : Rows) → rows_done xs ≡ rows_done ys → xs ≡ ys
 rows_is xs ys e = cc
 
 -- the rows of blocks, and behind them those of others, which are read wherever they stand

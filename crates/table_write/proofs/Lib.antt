@@ -4,3 +4,4 @@ pub mod Moments
 pub mod Fronts
 pub mod Adding
 pub mod BlockRows
+pub mod RowGrowth

@@ -1,14 +1,16 @@
 // What holds of rows that are written in blocks.
-ghost use Rattle.std.specs.Prelude.{◌≡◌, ◌≤◌, ◌+◌, ◌++◌, ℕ, List, length, All, Bool, Ok};
+ghost use Rattle.std.specs.Prelude.{◌≡◌, ◌≤◌, ◌+◌, ◌++◌, [], ℕ, List, length, All, Bool, Ok};
 ghost use Rattle.tuple_schema.specs.declared.value.Value.{Value};
 ghost use Rattle.tuple_schema.specs.declared.schema.Column.{Column};
 ghost use Rattle.row_codec.specs.Decoding.{IsRowOf};
 ghost use Rattle.commit_disk.specs.Table.{Stored, Holds};
+ghost use Rattle.commit_disk.specs.Crashes.{HasStill};
 ghost use Rattle.table_read.specs.Rows.{table_rows};
 ghost use Rattle.table_write.specs.Cut.{IsCut, cut, together};
-ghost use Rattle.table_write.specs.Rows.{HoldsRows};
+ghost use Rattle.table_write.specs.Rows.{HoldsRows, HoldsFirst, HoldsEnded};
 ghost use Rattle.table_write.specs.Adds.{with_blocks};
 
+use commit_disk::{holds_once, verdicts_agree};
 use table_read::rows_laws;
 
 /// Of any rows there is exactly one cut. It does nothing: its contract is the laws.
@@ -25,4 +27,16 @@ pub fn blocks_laws()
         HoldsRows image text columns (rows ++ together blocks) ended }
 {
     rows_laws();
+}
+
+/// An image that has still what an old one has holds its first rows, where it holds rows at all, and
+/// is ended where the old one is. It does nothing: its contract is the laws.
+pub fn still_laws()
+    ensures first_rows { (text : List ℕ) (old : List ℕ) (image : List ℕ) (columns : List Column) (rows : List (List Value)) →
+        HasStill text old image → HoldsFirst text columns rows old → HoldsFirst text columns [] image → HoldsFirst text columns rows image }
+    ensures ended { (text : List ℕ) (old : List ℕ) (image : List ℕ) (columns : List Column) →
+        HasStill text old image → HoldsEnded text columns old → HoldsEnded text columns image }
+{
+    holds_once();
+    verdicts_agree();
 }
