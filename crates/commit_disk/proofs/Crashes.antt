@@ -1,5 +1,5 @@
 -- What the images that a crash leaves hold.
-use Rattle.std.proofs.Common.{◌≡◌, ◌≤◌, ◌<◌, ◌+◌, ◌^◌, inl, inr, ⊎_elim, ℕ, List, [], ◌∷◌, ◌++◌, length, get_or, take, drop, Bool, true, false, ap, sym, subst, ◌∙◌, refl, arith, append_assoc, if◌then◌else◌, length-append, take-append-drop}
+use Rattle.std.proofs.Common.{◌≡◌, ◌⊎◌, ◌≤◌, ◌<◌, ◌+◌, ◌^◌, inl, inr, ⊎_elim, ℕ, List, [], ◌∷◌, ◌++◌, length, get_or, take, drop, Bool, true, false, ap, sym, subst, ◌∙◌, refl, arith, append_assoc, if◌then◌else◌, length-append, take-append-drop}
 use Rattle.std.specs.List.{flat_map}
 use Rattle.std.proofs.lemmas.Bool.{cases_lt, true≢false}
 use Rattle.std.proofs.lemmas.List.{take_at, drop_more, get_or_at, append-nil}
@@ -7,7 +7,7 @@ use Rattle.outside.specs.Images.{Torn}
 use Rattle.commit_disk.specs.Table.{Stored, IsStored, Holds, HoldsUpTo, IsNotMade, front, head, opened, rows_block, end_block}
 use Rattle.commit_disk.specs.Buffer.{behind_gate}
 use Rattle.commit_disk.specs.Gate.{HasClosedGate, HasClosedGateAt, KeepsClosed, OpensGate}
-use Rattle.commit_disk.specs.Crashes.{Grows}
+use Rattle.commit_disk.specs.Crashes.{HasStill, Grows}
 use Rattle.commit_disk.specs.Passing.{PassesOver}
 use Rattle.commit_disk.proofs.Tables.{commits, ends, made, length-head}
 use Rattle.commit_disk.proofs.Moments.{in_words}
@@ -80,52 +80,66 @@ module _ (place at first last : ℕ) (old behind : List ℕ) (left_at : ℕ → 
       (λ image opens. inr (ends place old image (place + 10) refl (omega arith) (subst (λ (b : List ℕ). OpensGate place b old image) writes opens) text blocks here).holds)
       (passes (closed_gate place old text blocks false here))
 
+-- an image has still what it has
+has_itself : (text image : List ℕ) → HasStill text image image
+has_itself text image = record { blocks = λ had it. it; ended = λ had it. it }
+
+-- a table with more blocks or an end has still what the shorter one has
+has_more : (text old image : List ℕ) (blocks longer more : List Stored) (ended : Bool) → longer ≡ blocks ++ more → Holds old text blocks false → Holds image text blocks false ⊎ Holds image text longer ended → HasStill text old image
+has_more text old image blocks longer more ended is was either = record {
+  blocks = λ had has_blocks.
+      elim has_blocks [
+        | inl has ↦
+            let same : had ++ has.0 ≡ blocks = (once old text text (had ++ has.0) blocks has.1 false has.2 was).1 in
+            inl (⊎_elim
+            (λ is_before. (has.0, false, subst (λ (bs : List Stored). Holds image text bs false) (sym same) is_before))
+            (λ is_after. (has.0 ++ more, ended, subst (λ (bs : List Stored). Holds image text bs ended) (is ∙ ap (λ (bs : List Stored). bs ++ more) (sym same) ∙ append_assoc had has.0 more) is_after))
+            either)
+        | inr none ↦ absurd (not_both old text blocks false was none.0)
+      ];
+  ended = λ had has. absurd (true≢false (once old text text had blocks true false has was).2);
+}
+
+-- an empty table, or none, has still what an image that isn't made has
+has_none : (text old image : List ℕ) → IsNotMade old → IsNotMade image ⊎ Holds image text [] false → HasStill text old image
+has_none text old image was either = record {
+  blocks = λ had has_blocks.
+      elim has_blocks [
+        | inl has ↦ absurd (not_both old text (had ++ has.0) has.1 has.2 was)
+        | inr none ↦ ⊎_elim
+            (λ not_made. inr (not_made, none.1))
+            (λ empty. inl ([], false, subst (λ (bs : List Stored). Holds image text bs false) (sym (append-nil had ∙ none.1)) empty))
+            either
+      ];
+  ended = λ had has. absurd (not_both old text had true has was);
+}
+
 module _ (text : List ℕ) (first last : ℕ) (left_at : ℕ → List ℕ → Type 0) where
-  -- where a table passes over to one with more blocks or an end, nothing is lost
-  pub grows_by : (blocks longer more : List Stored) (ended : Bool) → longer ≡ blocks ++ more → PassesOver first last left_at (λ image. Holds image text blocks false) (λ image. Holds image text longer ended) → Grows text first last left_at
-  grows_by blocks longer more ended is passes = record {
-    keeps_blocks = λ u v from le to had all image it.
+  -- where the images pass over, and keep what the first had, nothing is lost
+  grows : (Before After : List ℕ → Type 0) → ((old image : List ℕ) → Before old → Before image ⊎ After image → HasStill text old image) → PassesOver first last left_at Before After → Grows text first last left_at
+  grows Before After still passes = record {
+    keeps = λ u v from le to image it.
         elim (passes.ordered u v from le to) [
-          | inl fewer ↦ all image (fewer image it)
-          | inr before ↦ elim (all before.0 before.1) [
-            | inl has ↦
-                let same : had ++ has.0 ≡ blocks = (once before.0 text text (had ++ has.0) blocks has.1 false has.2 before.2).1 in
-                inl (⊎_elim
-                (λ is_before. (has.0, false, subst (λ (bs : List Stored). Holds image text bs false) (sym same) is_before))
-                (λ is_after. (has.0 ++ more, ended, subst (λ (bs : List Stored). Holds image text bs ended) (is ∙ ap (λ (bs : List Stored). bs ++ more) (sym same) ∙ append_assoc had has.0 more) is_after))
-                (passes.either image (v, omega arith, to, it)))
-            | inr none ↦ absurd (not_both before.0 text blocks false before.2 none.0)
-          ]
-        ];
-    keeps_end = λ u v from le to all image it.
-        elim (passes.ordered u v from le to) [
-          | inl fewer ↦ all image (fewer image it)
-          | inr before ↦
-              let has = all before.0 before.1 in
-              absurd (true≢false (once before.0 text text has.0 blocks true false has.1 before.2).2)
+          | inl fewer ↦ (image, fewer image it, has_itself text image)
+          | inr before ↦ (before.0, before.1, still before.0 image before.2 (passes.either image (v, omega arith, to, it)))
         ];
   }
 
-  -- nor is it where a table is made
-  pub grows_made : PassesOver first last left_at IsNotMade (λ image. Holds image text [] false) → Grows text first last left_at
-  grows_made passes = record {
-    keeps_blocks = λ u v from le to had all image it.
-        elim (passes.ordered u v from le to) [
-          | inl fewer ↦ all image (fewer image it)
-          | inr before ↦ elim (all before.0 before.1) [
-            | inl has ↦ absurd (not_both before.0 text (had ++ has.0) has.1 has.2 before.2)
-            | inr none ↦ ⊎_elim
-                (λ not_made. inr (not_made, none.1))
-                (λ empty. inl ([], false, subst (λ (bs : List Stored). Holds image text bs false) (sym (append-nil had ∙ none.1)) empty))
-                (passes.either image (v, omega arith, to, it))
-          ]
-        ];
-    keeps_end = λ u v from le to all image it.
-        elim (passes.ordered u v from le to) [
-          | inl fewer ↦ all image (fewer image it)
-          | inr before ↦ let has = all before.0 before.1 in absurd (not_both before.0 text has.0 true has.1 before.2)
-        ];
+  -- within one moment
+  pub grows_at : first ≡ last → Grows text first last left_at
+  grows_at one = record {
+    keeps = λ u v from le to image it.
+        let same : v ≡ u = omega arith in
+        (image, subst (λ (m : ℕ). left_at m image) same it, has_itself text image);
   }
+
+  -- where a table passes over to one with more blocks or an end
+  pub grows_by : (blocks longer more : List Stored) (ended : Bool) → longer ≡ blocks ++ more → PassesOver first last left_at (λ image. Holds image text blocks false) (λ image. Holds image text longer ended) → Grows text first last left_at
+  grows_by blocks longer more ended is = grows _ _ (λ old image. has_more text old image blocks longer more ended is)
+
+  -- and where a table is made
+  pub grows_made : PassesOver first last left_at IsNotMade (λ image. Holds image text [] false) → Grows text first last left_at
+  grows_made = grows _ _ (has_none text)
 
 -- while the made gate is opened
 pub leaves_made : (text old image : List ℕ) → length text ≤ 65536 → HasClosedGate old → OpensGate 0 (head text ++ 0 ∷ []) old image → Holds image text [] false

@@ -1,5 +1,5 @@
 -- Calls that only read a disk, one after the other.
-use Rattle.std.proofs.Common.{◌≤◌, ◌∙◌, inl, inr, ⊎_elim, ℕ, List, Bool, IsTrue, refl, arith}
+use Rattle.std.proofs.Common.{◌≡◌, ◌≤◌, ◌∙◌, inl, inr, ⊎_elim, ℕ, List, Bool, IsTrue, refl, arith}
 use Rattle.outside.specs.Disk.{Kept}
 use Rattle.outside.specs.Images.{SameImages, Ticks}
 use Rattle.commit_disk.specs.Crashes.{GoesOn, NothingNew}
@@ -34,29 +34,18 @@ nothing_new_on first middle last left now was is later one goes fewer two =
     (pass_on (λ _. ⊥) was first middle last left now later (passing first middle left was one) goes
     (in_words middle last now (λ _. ⊥) is (λ _. ⊥) was (λ image none. none) (λ image it. inr (fewer image it)) (passing middle last now is two)))
 
-module _ {D : Type 0} (honest : D → Bool) (seen : D → List ℕ) (may_leave : D → List ℕ → Type 0) (clock : D → ℕ) (left_at : D → ℕ → List ℕ → Type 0)
+module _ {D : Type 0} (len : D → ℕ) (honest : D → Bool) (seen : D → List ℕ) (may_leave : D → List ℕ → Type 0) (clock : D → ℕ) (left_at : D → ℕ → List ℕ → Type 0) (faults : D → ℕ)
     (left_now : (disk : D) → IsTrue (honest disk) → SameImages (left_at disk (clock disk)) (may_leave disk)) where
   abbrev pub Read : D → D → Type 0
-  Read old new = OnlyRead honest seen may_leave clock left_at old new
+  Read old new = OnlyRead len honest seen may_leave clock left_at faults old new
 
   stays : (images : List ℕ → Type 0) → SameImages images images
   stays images image = (λ it. it, λ it. it)
 
-  pub no_read : (disk : D) → Read disk disk
-  no_read disk = record {
-    still_honest = refl;
-    same_file = λ _. refl;
-    same_images = λ _. stays (may_leave disk);
-    time = λ _. record { later = omega arith; kept = λ moment le. stays (left_at disk moment) };
-    nothing_new = λ is_honest.
-        nothing_new (clock disk) (clock disk) (left_at disk) (left_at disk) (may_leave disk) (may_leave disk)
-        (record { later = omega arith; by_one = omega arith; kept = λ moment le. stays (left_at disk moment) })
-        (left_now disk is_honest) (left_now disk is_honest) (λ image it. it);
-  }
-
-  pub one_read : (old new : D) → Kept (honest old) (honest new) (seen old) (seen new) → (IsTrue (honest old) → SameImages (may_leave old) (may_leave new))
-      → (IsTrue (honest old) → Ticks (clock old) (clock new) (left_at old) (left_at new)) → Read old new
-  one_read old new kept images time = record {
+  pub one_read : (old new : D) → len new ≡ len old → Kept (honest old) (honest new) (seen old) (seen new) → (IsTrue (honest old) → SameImages (may_leave old) (may_leave new))
+      → (IsTrue (honest old) → Ticks (clock old) (clock new) (left_at old) (left_at new)) → faults old ≤ faults new → Read old new
+  one_read old new long kept images time later = record {
+    same_len = long;
     still_honest = kept.honest;
     same_file = kept.file;
     same_images = images;
@@ -64,10 +53,17 @@ module _ {D : Type 0} (honest : D → Bool) (seen : D → List ℕ) (may_leave :
     nothing_new = λ is_honest.
         nothing_new (clock old) (clock new) (left_at old) (left_at new) (may_leave old) (may_leave new) (time is_honest)
         (left_now old is_honest) (left_now new (kept.honest ∙ is_honest)) (λ image it. (images is_honest image).1 it);
+    later = later;
   }
+
+  pub no_read : (disk : D) → Read disk disk
+  no_read disk =
+      one_read disk disk refl (record { honest = refl; file = λ _. refl }) (λ _. stays (may_leave disk))
+      (λ _. record { later = omega arith; by_one = omega arith; kept = λ moment le. stays (left_at disk moment) }) (omega arith)
 
   pub and_read : (one two three : D) → Read one two → Read two three → Read one three
   and_read one two three first second = record {
+    same_len = second.same_len ∙ first.same_len;
     still_honest = second.still_honest ∙ first.still_honest;
     same_file = λ is_honest. second.same_file (first.still_honest ∙ is_honest) ∙ first.same_file is_honest;
     same_images = λ is_honest image. (
@@ -79,6 +75,7 @@ module _ {D : Type 0} (honest : D → Bool) (seen : D → List ℕ) (may_leave :
         let still = first.still_honest ∙ is_honest in
         nothing_new_on (clock one) (clock two) (clock three) (left_at two) (left_at three) (may_leave one) (may_leave two) (first.time is_honest).later (first.nothing_new is_honest)
         (second.time still) (λ image it. (first.same_images is_honest image).1 it) (second.nothing_new still);
+    later = omega (arith, first.later, second.later);
   }
 
   pub read_three : (one two three four : D) → Read one two → Read two three → Read three four → Read one four

@@ -178,8 +178,7 @@ fn read_block_head<K: Disk>(disk: &mut K, gate: u64, size: u64) -> Result<[u8; 1
         → slice_index head 0 ≡ slice_index (K.seen disk.old) gate) }
     ensures bytes { IfOk result (λ head. IsTrue (K.honest disk.old) → size ≡ length (K.seen disk.old)
         → gate + 10 ≤ size → head ≡ take 10 (drop gate (K.seen disk.old))) }
-    ensures read { OnlyRead K.honest K.seen K.may_leave K.clock K.left_at disk.old disk.new }
-    ensures len { K.len disk.new ≡ K.len disk.old }
+    ensures read { OnlyRead K.len K.honest K.seen K.may_leave K.clock K.left_at K.faults disk.old disk.new }
     ensures cause { HasCause (K.faults disk.old) (K.faults disk.new) result }
 {
     let mut head = [CLOSED; 10];
@@ -196,8 +195,7 @@ fn pass_gate<K: Disk>(disk: &mut K, size: u64, journal: &mut Journal) -> Result<
         → (text : List ℕ) → IsOnTheWay journal.old (K.seen disk.old) text → GateTells result journal.new (K.seen disk.old) text }
     ensures within { OnOk result (journal.new.gate < size) }
     ensures onward { IfOk result (λ passed. IsTrue passed → journal.old.gate < journal.new.gate) }
-    ensures read { OnlyRead K.honest K.seen K.may_leave K.clock K.left_at disk.old disk.new }
-    ensures len { K.len disk.new ≡ K.len disk.old }
+    ensures read { OnlyRead K.len K.honest K.seen K.may_leave K.clock K.left_at K.faults disk.old disk.new }
     ensures cause { HasDiskCause (K.faults disk.old) (K.faults disk.new) result }
 {
     let gate = journal.gate();
@@ -219,8 +217,7 @@ fn read_gates<K: Disk>(disk: &mut K, size: u64, first: u64) -> Result<Journal, T
     ensures tells { IsTrue (K.honest disk.old) → size ≡ length (K.seen disk.old)
         → (text : List ℕ) → first ≡ 16 + length text → LeadsTo first (K.seen disk.old) text [] false → GatesTell result (K.seen disk.old) text }
     ensures within { IfOk result (λ journal. journal.gate < size) }
-    ensures read { OnlyRead K.honest K.seen K.may_leave K.clock K.left_at disk.old disk.new }
-    ensures len { K.len disk.new ≡ K.len disk.old }
+    ensures read { OnlyRead K.len K.honest K.seen K.may_leave K.clock K.left_at K.faults disk.old disk.new }
     ensures cause { HasDiskCause (K.faults disk.old) (K.faults disk.new) result }
 {
     let mut journal = Journal::new(first);
@@ -233,8 +230,7 @@ fn read_head<K: Disk>(disk: &mut K, size: u64) -> Result<Option<u32>, TableFault
     requires { size ≤ K.len disk.old }
     ensures tells { IsTrue (K.honest disk.old) → size ≡ length (K.seen disk.old) → HeadTells result (K.seen disk.old) }
     ensures fits { IfOk result (λ len. IfSome len (λ n. (17 + n ≤ size) × (n ≤ MAX_FLOW_BYTES))) }
-    ensures read { OnlyRead K.honest K.seen K.may_leave K.clock K.left_at disk.old disk.new }
-    ensures len { K.len disk.new ≡ K.len disk.old }
+    ensures read { OnlyRead K.len K.honest K.seen K.may_leave K.clock K.left_at K.faults disk.old disk.new }
     ensures cause { HasDiskCause (K.faults disk.old) (K.faults disk.new) result }
 {
     if size < 17 {
@@ -251,8 +247,7 @@ fn has_text<K: Disk>(disk: &mut K, len: u32, text: &[u8], copy: &mut [u8]) -> Re
     requires len { 16 + len ≤ K.len disk.old }
     ensures same { IfOk result (λ same. IsTrue (K.honest disk.old) → 16 + len ≤ length (K.seen disk.old)
         → IsTrue same ↔ (take len (drop 16 (K.seen disk.old)) ≡ text.now)) }
-    ensures read { OnlyRead K.honest K.seen K.may_leave K.clock K.left_at disk.old disk.new }
-    ensures len { K.len disk.new ≡ K.len disk.old }
+    ensures read { OnlyRead K.len K.honest K.seen K.may_leave K.clock K.left_at K.faults disk.old disk.new }
     ensures cause { HasCause (K.faults disk.old) (K.faults disk.new) result }
 {
     if len as usize != text.len() {
@@ -287,8 +282,7 @@ fn read_table<K: Disk>(
     requires len { size ≤ K.len disk.old }
     ensures tells { IsTrue (K.honest disk.old) → size ≡ length (K.seen disk.old) → FoundTells result (K.seen disk.old) text.now }
     ensures within { IfOk result (λ found. IsWithin found size) }
-    ensures read { OnlyRead K.honest K.seen K.may_leave K.clock K.left_at disk.old disk.new }
-    ensures len { K.len disk.new ≡ K.len disk.old }
+    ensures read { OnlyRead K.len K.honest K.seen K.may_leave K.clock K.left_at K.faults disk.old disk.new }
     ensures cause { HasDiskCause (K.faults disk.old) (K.faults disk.new) result }
 {
     let Some(len) = read_head(disk, size)? else {

@@ -4,7 +4,7 @@ use Rattle.std.proofs.lemmas.Bool.{cases_lt}
 use Rattle.outside.specs.Disk.{Kept}
 use Rattle.outside.specs.Images.{SameImages, Ticks}
 use Rattle.commit_disk.specs.Crashes.{Each, GoesOn, NothingNew}
-use Rattle.table_read.specs.Calls.{OnlyRead}
+use Rattle.commit_disk.specs.Frames.{OnlyRead}
 
 -- one call
 one_call : (before now : ℕ) (left still : ℕ → List ℕ → Type 0) (was is : List ℕ → Type 0) → Ticks before now left still → SameImages (left before) was → SameImages (still now) is → Each is was → NothingNew before now still was

@@ -1,29 +1,17 @@
 -- What the parts of verifying do.
-use Rattle.std.specs.Prelude.{◌≡◌, ◌≤◌, ◌<◌, ◌^◌, ℕ, List, ◌∷◌, ◌++◌, length, drop, Bool, IsTrue, Result, Ok, Err, ⊤}
+use Rattle.std.specs.Prelude.{◌≡◌, ◌≤◌, ◌<◌, ◌^◌, ℕ, List, ◌∷◌, ◌++◌, length, drop, Result, Ok, Err, ⊤}
 use Rattle.std.specs.Int.{w32, to_be_bytes}
 use Rattle.tuple_schema.specs.declared.memory.Stop.{Stop}
 use Rattle.tuple_schema.specs.declared.memory.Stop.TheVariants.{Memory, Fault}
 use Rattle.tuple_schema.specs.declared.value.Value.{Value}
 use Rattle.tuple_schema.specs.declared.schema.Column.{Column}
-use Rattle.outside.specs.Images.{SameImages}
 use Rattle.commit_disk.specs.declared.attaching.TableFault.{TableFault}
 use Rattle.commit_disk.specs.declared.attaching.TableFault.TheVariants.{Disk, NotATable, WorkflowDiffers}
-use Rattle.commit_disk.specs.Crashes.{GoesOn, NothingNew}
 use Rattle.commit_disk.specs.Table.{Stored}
 use Rattle.row_codec.specs.Rows.{row_bytes}
 use Rattle.row_codec.specs.Decoding.{row_at}
 use Rattle.table_read.specs.declared.blocks.BlockHead.{BlockHead}
 use Rattle.table_read.specs.Rows.{or_place, next_gate}
-
--- the disk was only read
-pub record OnlyRead {D : Type 0} (len : D → ℕ) (honest : D → Bool) (seen : D → List ℕ) (may_leave : D → List ℕ → Type 0) (clock : D → ℕ) (left_at : D → ℕ → List ℕ → Type 0) (faults : D → ℕ) (old new : D) : Type 0 where
-  pub same_len : len new ≡ len old
-  pub still_honest : honest new ≡ honest old
-  pub same_file : IsTrue (honest old) → seen new ≡ seen old
-  pub same_images : IsTrue (honest old) → SameImages (may_leave old) (may_leave new)
-  pub time : IsTrue (honest old) → GoesOn (clock old) (clock new) (left_at old) (left_at new)
-  pub nothing_new : IsTrue (honest old) → NothingNew (clock old) (clock new) (left_at new) (may_leave old)
-  pub later : faults old ≤ faults new
 
 -- what the row at the front of the bytes tells: how many bytes it takes, or that there is none
 abbrev pub RowTells : List Column → ℕ → List ℕ → Result ℕ (Stop TableFault) → Type 0

@@ -3,10 +3,11 @@ ghost use Rattle.std.specs.Prelude.{◌≡◌, ◌≤◌, ◌<◌, ◌+◌, ◌^
 ghost use Rattle.std.specs.Int.{w32, from_be_bytes};
 ghost use Rattle.outside.specs.Disk.{Reads};
 ghost use Rattle.tuple_schema.specs.Stops.{IfFault};
+ghost use Rattle.commit_disk.specs.Frames.{OnlyRead};
 ghost use Rattle.commit_disk.specs.Table.{Stored};
 ghost use Rattle.table_read.specs.Rows.{block_rows, next_gate};
 ghost use Rattle.table_read.specs.Places.{Verifies, wrong_place, IsCaused, IsDisk};
-ghost use Rattle.table_read.specs.Calls.{OnlyRead, HasBlock, HeadTells};
+ghost use Rattle.table_read.specs.Calls.{HasBlock, HeadTells};
 
 use crate::rows::verify_rows;
 use commit_disk::TableFault;

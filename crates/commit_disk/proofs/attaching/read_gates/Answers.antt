@@ -1,4 +1,4 @@
-use Rattle.std.proofs.Common.{◌≡◌, ◌∙◌, ℕ, List, length, Bool, true, false, Result, Ok, ap, sym, subst, arith}
+use Rattle.std.proofs.Common.{◌≡◌, ◌∙◌, ℕ, List, length, Bool, true, false, Result, Ok, ap, sym, subst}
 use Rattle.commit_disk.specs.declared.attaching.TableFault.{TableFault}
 use Rattle.commit_disk.specs.Frames.{IsOnTheWay, GateTells}
 use Rattle.commit_disk.proofs.OnlyReads.{and_read}
@@ -11,11 +11,11 @@ still_told result b journal was is text same answers tells = subst (λ (r : Resu
 
 pub returns-in_err-pass_gate-clause-read : goal.returns-in_err-pass_gate-clause-read
 returns-in_err-pass_gate-clause-read g c =
-    and_read g.K.Disk.honest g.K.Disk.seen g.K.Disk.may_leave g.K.Disk.clock g.K.Disk.left_at g.met.K.Disk.left_now c.args.disk.now c.loop.disk c.pass_gate.new.disk c.loop.invariant.read c.pass_gate.ensures.read
+    and_read g.K.Disk.len g.K.Disk.honest g.K.Disk.seen g.K.Disk.may_leave g.K.Disk.clock g.K.Disk.left_at g.K.Disk.faults g.met.K.Disk.left_now c.args.disk.now c.loop.disk c.pass_gate.new.disk c.loop.invariant.read c.pass_gate.ensures.read
 
 pub returns-clause-read : goal.returns-clause-read
 returns-clause-read g c =
-    and_read g.K.Disk.honest g.K.Disk.seen g.K.Disk.may_leave g.K.Disk.clock g.K.Disk.left_at g.met.K.Disk.left_now c.args.disk.now c.loop.disk c.pass_gate.new.disk c.loop.invariant.read c.pass_gate.ensures.read
+    and_read g.K.Disk.len g.K.Disk.honest g.K.Disk.seen g.K.Disk.may_leave g.K.Disk.clock g.K.Disk.left_at g.K.Disk.faults g.met.K.Disk.left_now c.args.disk.now c.loop.disk c.pass_gate.new.disk c.loop.invariant.read c.pass_gate.ensures.read
 
 pub returns-clause-tells : goal.returns-clause-tells
 returns-clause-tells g c = λ honest sized text first leads.
@@ -28,9 +28,7 @@ returns-clause-tells g c = λ honest sized text first leads.
 pub loop-preserved : goal.loop-preserved
 loop-preserved g c = record {
   within = c.in_ok-pass_gate.ensures.within;
-  len = c.pass_gate.ensures.len ∙ c.loop.invariant.len;
-  later = omega (arith, c.loop.invariant.later, c.pass_gate.ensures.cause.later);
-  read = and_read g.K.Disk.honest g.K.Disk.seen g.K.Disk.may_leave g.K.Disk.clock g.K.Disk.left_at g.met.K.Disk.left_now c.args.disk.now c.loop.disk c.pass_gate.new.disk c.loop.invariant.read c.pass_gate.ensures.read;
+  read = and_read g.K.Disk.len g.K.Disk.honest g.K.Disk.seen g.K.Disk.may_leave g.K.Disk.clock g.K.Disk.left_at g.K.Disk.faults g.met.K.Disk.left_now c.args.disk.now c.loop.disk c.pass_gate.new.disk c.loop.invariant.read c.pass_gate.ensures.read;
   way = λ honest sized text first leads.
       let same = c.loop.invariant.read.same_file honest in
       let here = subst (λ (file : List ℕ). IsOnTheWay c.loop.journal file text) (sym same) (c.loop.invariant.way honest sized text first leads) in

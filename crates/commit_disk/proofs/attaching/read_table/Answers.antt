@@ -8,19 +8,19 @@ use Rattle.commit_disk.proofs.attaching.read_table.Goals as goal
 
 pub returns-in_err-journal-clause-read : goal.returns-in_err-journal-clause-read
 returns-in_err-journal-clause-read g c =
-    and_read g.K.Disk.honest g.K.Disk.seen g.K.Disk.may_leave g.K.Disk.clock g.K.Disk.left_at g.met.K.Disk.left_now c.args.disk.now c.read_head.new.disk c.read_gates.new.disk c.read_head.ensures.read c.read_gates.ensures.read
+    and_read g.K.Disk.len g.K.Disk.honest g.K.Disk.seen g.K.Disk.may_leave g.K.Disk.clock g.K.Disk.left_at g.K.Disk.faults g.met.K.Disk.left_now c.args.disk.now c.read_head.new.disk c.read_gates.new.disk c.read_head.ensures.read c.read_gates.ensures.read
 
 pub returns-in_err-has_text-clause-read : goal.returns-in_err-has_text-clause-read
 returns-in_err-has_text-clause-read g c =
-    read_three g.K.Disk.honest g.K.Disk.seen g.K.Disk.may_leave g.K.Disk.clock g.K.Disk.left_at g.met.K.Disk.left_now c.args.disk.now c.read_head.new.disk c.read_gates.new.disk c.has_text.new.disk c.read_head.ensures.read c.read_gates.ensures.read c.has_text.ensures.read
+    read_three g.K.Disk.len g.K.Disk.honest g.K.Disk.seen g.K.Disk.may_leave g.K.Disk.clock g.K.Disk.left_at g.K.Disk.faults g.met.K.Disk.left_now c.args.disk.now c.read_head.new.disk c.read_gates.new.disk c.has_text.new.disk c.read_head.ensures.read c.read_gates.ensures.read c.has_text.ensures.read
 
 pub returns-then-not-branch-clause-read : goal.returns-then-not-branch-clause-read
 returns-then-not-branch-clause-read g c =
-    read_three g.K.Disk.honest g.K.Disk.seen g.K.Disk.may_leave g.K.Disk.clock g.K.Disk.left_at g.met.K.Disk.left_now c.args.disk.now c.read_head.new.disk c.read_gates.new.disk c.has_text.new.disk c.read_head.ensures.read c.read_gates.ensures.read c.has_text.ensures.read
+    read_three g.K.Disk.len g.K.Disk.honest g.K.Disk.seen g.K.Disk.may_leave g.K.Disk.clock g.K.Disk.left_at g.K.Disk.faults g.met.K.Disk.left_now c.args.disk.now c.read_head.new.disk c.read_gates.new.disk c.has_text.new.disk c.read_head.ensures.read c.read_gates.ensures.read c.has_text.ensures.read
 
 pub returns-clause-read : goal.returns-clause-read
 returns-clause-read g c =
-    read_three g.K.Disk.honest g.K.Disk.seen g.K.Disk.may_leave g.K.Disk.clock g.K.Disk.left_at g.met.K.Disk.left_now c.args.disk.now c.read_head.new.disk c.read_gates.new.disk c.has_text.new.disk c.read_head.ensures.read c.read_gates.ensures.read c.has_text.ensures.read
+    read_three g.K.Disk.len g.K.Disk.honest g.K.Disk.seen g.K.Disk.may_leave g.K.Disk.clock g.K.Disk.left_at g.K.Disk.faults g.met.K.Disk.left_now c.args.disk.now c.read_head.new.disk c.read_gates.new.disk c.has_text.new.disk c.read_head.ensures.read c.read_gates.ensures.read c.has_text.ensures.read
 
 pub returns-then-not-branch-clause-tells : goal.returns-then-not-branch-clause-tells
 returns-then-not-branch-clause-tells g c = λ honest sized.

@@ -1,5 +1,5 @@
-use Rattle.std.proofs.Common.{◌∙◌}
-use Rattle.commit_disk.proofs.Crashes.{grows_made}
+use Rattle.std.proofs.Common.{◌∙◌, refl}
+use Rattle.commit_disk.proofs.Crashes.{grows_at, grows_made}
 use Rattle.commit_disk.proofs.journal.make.Goals as goal
 
 pub returns-in_err-write_head-clause-grows : goal.returns-in_err-write_head-clause-grows
@@ -9,3 +9,6 @@ returns-in_err-write_head-clause-grows g c = λ honest settled.
 pub returns-clause-grows : goal.returns-clause-grows
 returns-clause-grows g c = λ honest settled.
     grows_made _ _ _ _ (c.write_head.ensures.passes honest settled (c.requires.not_made honest) c.args.text.now c.requires.short (c.deref.ensures.value ∙ c.in_ok-behind.ensures.bytes))
+
+pub returns-in_err-behind-clause-grows : goal.returns-in_err-behind-clause-grows
+returns-in_err-behind-clause-grows g c = λ honest settled. grows_at _ _ _ _ refl

@@ -3,7 +3,7 @@ use Rattle.commit_disk.specs.Table.{Stored}
 use Rattle.commit_disk.specs.Attach.{TellsOf}
 use Rattle.table_read.specs.Rows.{table_rows}
 use Rattle.table_read.specs.Places.{wrong_place}
-use Rattle.table_read.specs.Calls.{OnlyRead}
+use Rattle.commit_disk.specs.Frames.{OnlyRead}
 use Rattle.table_read.proofs.Standing.{StandFrom}
 use Rattle.table_read.proofs.table.verify.Given as goal
 

@@ -1,0 +1,7 @@
+pub mod Cuts
+pub mod Rows
+pub mod Moments
+pub mod Fronts
+pub mod Adding
+pub mod BlockRows
+pub mod RowGrowth

@@ -1,0 +1,37 @@
+use Rattle.std.proofs.Common.{◌<◌, ◌+◌, ◌^◌, inl, inr, All, sym, subst, arith}
+use Rattle.std.proofs.lemmas.Bool.{cases_lt, iff_false}
+use Rattle.row_codec.specs.Decoding.{IsRowOf}
+use Rattle.table_write.specs.Cut.{cut}
+use Rattle.table_write.proofs.Cuts.{cut_is}
+use Rattle.table_write.proofs.Adding.{leaves_end, filled_at_end}
+use Rattle.table_write.proofs.writer.Writer.append.Goals as goal
+
+pub returns-then-not-fits-clause-full : goal.returns-then-not-fits-clause-full
+returns-then-not-fits-clause-full g c = λ is_full.
+    let blocks = c.in_ok-append_blocks.ensures in
+    let full : 2 ^ 48 < c.append_blocks.new.journal.gate + 11 =
+    elim (cases_lt (2 ^ 48) (c.append_blocks.new.journal.gate + 11)) [
+      | inl past ↦ past
+      | inr le ↦ absurd (iff_false c.fits.ensures c.if-not-fits.true (omega (arith, le, c.gate.ensures.gate)))
+    ] in
+    filled_at_end g.K.Disk.len g.K.Disk.honest g.K.Disk.seen g.K.Disk.may_leave g.K.Disk.clock g.K.Disk.left_at c.args.schema.now (cut c.args.batch c.args.rows.now) c.args.journal.now c.args.disk.now
+    c.append_blocks.new.journal c.append_blocks.new.disk blocks.added blocks.each_fits full
+
+pub returns-in_err-end-clause-any_moment : goal.returns-in_err-end-clause-any_moment
+returns-in_err-end-clause-any_moment g c =
+    let blocks = c.in_ok-append_blocks.ensures in
+    let end = c.end.ensures in
+    leaves_end g.K.Disk.len g.K.Disk.honest g.K.Disk.seen g.K.Disk.may_leave g.K.Disk.clock g.K.Disk.left_at c.args.schema.now (cut c.args.batch c.args.rows.now) c.args.journal.now c.args.disk.now
+    c.append_blocks.new.journal c.append_blocks.new.disk blocks.added c.end.new.disk blocks.honest blocks.any_moment end.any_moment end.grows end.time
+
+pub returns-clause-of_columns : goal.returns-clause-of_columns
+returns-clause-of_columns g c =
+    let cuts = cut_is c.args.batch c.args.rows.now c.requires.some in
+    subst (All (IsRowOf c.args.schema.now)) (sym cuts.whole) c.in_ok-append_blocks.ensures.added.of_columns
+
+pub returns-clause-any_moment : goal.returns-clause-any_moment
+returns-clause-any_moment g c =
+    let blocks = c.in_ok-append_blocks.ensures in
+    let end = c.end.ensures in
+    leaves_end g.K.Disk.len g.K.Disk.honest g.K.Disk.seen g.K.Disk.may_leave g.K.Disk.clock g.K.Disk.left_at c.args.schema.now (cut c.args.batch c.args.rows.now) c.args.journal.now c.args.disk.now
+    c.append_blocks.new.journal c.append_blocks.new.disk blocks.added c.end.new.disk blocks.honest blocks.any_moment end.any_moment end.grows end.time

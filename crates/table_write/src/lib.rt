@@ -1,0 +1,21 @@
+//! Rows as blocks of a table file.
+//!
+//! Stands on `commit_disk`, which commits a block, and on `row_codec`, which encodes a row. Read
+//! `specs/Cut.antt` first: `IsCut` says which blocks rows are cut into. Then `specs/Adds.antt`, which
+//! says what stands in the table in the midst of it.
+//!
+//! Promised of an honest disk on which nothing is pending: at every moment of `Writer::append` a crash
+//! leaves the old blocks and the first of the new ones; Ok comes where all of them and the end block
+//! stand, and Full exactly where they would end past the longest file.
+//! Not promised: anything of a disk that isn't honest, or of schemas with texts.
+#![tactic(auto)]
+
+mod fill;
+mod laws;
+mod writer;
+
+pub use laws::{blocks_laws, cut_laws, still_laws};
+pub use writer::{WriteFault, Writer};
+
+#[cfg(test)]
+mod tests;

@@ -1,0 +1,203 @@
+// Writing rows to a table.
+ghost use Rattle.std.specs.Prelude.{◌≡◌, ◌≤◌, ◌<◌, ◌+◌, ◌*◌, ◌^◌, ℕ, List, length, IsTrue, IsErrOf, IfOk, OnOk, All, true, false};
+ghost use Rattle.outside.specs.Counts.{Rose};
+ghost use Rattle.tuple_schema.specs.Schemas.{Fits};
+ghost use Rattle.row_codec.specs.Decoding.{IsRowOf};
+ghost use Rattle.row_codec.specs.Rows.{AreNumbers};
+ghost use Rattle.commit_disk.specs.Table.{Stored, HoldsUpTo};
+ghost use Rattle.commit_disk.specs.Journal.{after_block, after_end, Commits};
+ghost use Rattle.commit_disk.specs.Crashes.{IsSettled, LeftBetween, GoesOn, LeavesWhole, Grows};
+ghost use Rattle.table_write.specs.declared.writer.WriteFault.TheVariants as fault;
+ghost use Rattle.table_write.specs.Cut.{cut};
+ghost use Rattle.table_write.specs.Adds.{with_blocks, LeavesFronts, behind, HasRoom, AllHaveRoom, HasAdded, IsFilled};
+
+use crate::fill::fill;
+use commit_disk::{Block, Journal, MAX_ROWS, fits};
+use outside::{Disk, Failed, MAX_SIZE};
+use std::alloc::Global;
+use std::marker::Model;
+use thiserror::Error;
+use tuple_schema::{Memory, Schema, Tuple};
+
+/// Why rows can't be written.
+#[derive(Clone, Copy, Debug, PartialEq, Eq, Error)]
+pub enum WriteFault {
+    /// A call on the disk failed.
+    #[error("the disk failed")]
+    Disk,
+    /// The next block, or the end block, would end past the longest file.
+    #[error("the table is full")]
+    Full,
+}
+
+impl From<Failed> for WriteFault {
+    ghost from_gives = { λ _ e. e ≡ fault.Disk };
+
+    fn from(_: Failed) -> Self {
+        WriteFault::Disk
+    }
+}
+
+/// The memory for writing: a block that waits for its commit, and the bytes of a row. A contract
+/// sees it as how many bytes of a row it has room for.
+#[derive(Drop)]
+pub struct Writer {
+    block: Block,
+    row: Vec<u8>,
+}
+
+impl Model for Writer {
+    ghost use Rattle.std.specs.Prelude.{ℕ};
+    ghost use Rattle.std.specs.Vec.{vec_capacity};
+
+    ghost Value = { ℕ };
+
+    ghost view = { λ w. vec_capacity w.row };
+}
+
+impl Writer {
+    /// A writer with room for the rows of this schema, in which a number has nine bytes.
+    pub fn new(alloc: Global, schema: &Schema) -> Result<Writer, Memory>
+        ensures { IfOk result (λ writer. 9 * length schema.now ≤ writer) }
+    {
+        Ok(Writer {
+            block: Block::new(alloc)?,
+            row: Vec::with_capacity(alloc, 9 * schema.columns().len())?,
+        })
+    }
+
+    /// Commits the rows behind those of the table, in blocks of `batch` rows or 4,194,304 bytes, and
+    /// ends the table. At Disk attach the table again. At Full it holds the blocks that have room.
+    pub fn append<K: Disk>(
+        &mut self,
+        journal: &mut Journal,
+        disk: &mut K,
+        schema: &Schema,
+        rows: &[Tuple],
+        batch: u32,
+    ) -> Result<(), WriteFault>
+        requires sound { IsTrue journal.old.sound }
+        requires unended { journal.old.ended ≡ false }
+        requires place { journal.old.gate < K.len disk.old }
+        requires fit { All (λ row. Fits schema.now row) rows.now }
+        requires numbers { AreNumbers schema.now }
+        requires room { 9 * length schema.now ≤ self.old }
+        requires some { 1 ≤ batch }
+        requires few { batch ≤ MAX_ROWS }
+
+        ensures of_columns { OnOk result (All (IsRowOf schema.now) rows.now) }
+        ensures moved { OnOk result (journal.new ≡ after_end (behind journal.old (cut batch rows.now))) }
+        ensures done { OnOk result (IsTrue (K.honest disk.old) → (text : List ℕ) (olds : List Stored)
+            → HoldsUpTo journal.old.gate (K.seen disk.old) text olds false
+            → HoldsUpTo journal.new.gate (K.seen disk.new) text (with_blocks olds (cut batch rows.now)) true) }
+        ensures settled { OnOk result (IsTrue (K.honest disk.old) → IsSettled (K.seen disk.new) (K.may_leave disk.new)) }
+        ensures len { OnOk result (journal.new.gate < K.len disk.new) }
+
+        // A crash at any moment of the call leaves the old blocks and the first of the new ones.
+        ensures any_moment { IsTrue (K.honest disk.old) → IsSettled (K.seen disk.old) (K.may_leave disk.old)
+            → (text : List ℕ) (olds : List Stored) → HoldsUpTo journal.old.gate (K.seen disk.old) text olds false
+            → LeavesFronts text schema.now olds (cut batch rows.now) (K.clock disk.old) (K.clock disk.new) (K.left_at disk.new) }
+        ensures time { IsTrue (K.honest disk.old) → GoesOn (K.clock disk.old) (K.clock disk.new) (K.left_at disk.old) (K.left_at disk.new) }
+
+        // Unless the disk fails, Ok comes exactly where all blocks have room, and else Full.
+        ensures all_fit { OnOk result (AllHaveRoom journal.old.gate (cut batch rows.now)) }
+        ensures full { IsErrOf result fault.Full
+            → IsFilled K.len K.honest K.seen K.may_leave schema.now (cut batch rows.now) journal.old journal.new disk.old disk.new }
+
+        ensures unsound { IsErrOf result fault.Disk → journal.new.sound ≡ false }
+        ensures cause { IsErrOf result fault.Disk → Rose (K.faults disk.old) (K.faults disk.new) }
+        ensures later { K.faults disk.old ≤ K.faults disk.new }
+        ensures honest { K.honest disk.new ≡ K.honest disk.old }
+        ensures room { self.old ≤ self.new }
+    {
+        self.append_blocks(journal, disk, schema, rows, batch)?;
+        if !fits(journal.gate(), 0) {
+            return Err(WriteFault::Full);
+        }
+        journal.end(disk)?;
+        Ok(())
+    }
+
+    // Commits the rows in blocks.
+    fn append_blocks<K: Disk>(
+        &mut self,
+        journal: &mut Journal,
+        disk: &mut K,
+        schema: &Schema,
+        rows: &[Tuple],
+        batch: u32,
+    ) -> Result<(), WriteFault>
+        requires sound { IsTrue journal.old.sound }
+        requires unended { journal.old.ended ≡ false }
+        requires place { journal.old.gate < K.len disk.old }
+        requires fit { All (λ row. Fits schema.now row) rows.now }
+        requires numbers { AreNumbers schema.now }
+        requires room { 9 * length schema.now ≤ self.old }
+        requires some { 1 ≤ batch }
+        requires few { batch ≤ MAX_ROWS }
+
+        ensures added { OnOk result (HasAdded K.len K.honest K.seen K.may_leave schema.now (cut batch rows.now) journal.old journal.new disk.old disk.new) }
+        ensures any_moment { IsTrue (K.honest disk.old) → IsSettled (K.seen disk.old) (K.may_leave disk.old)
+            → (text : List ℕ) (olds : List Stored) → HoldsUpTo journal.old.gate (K.seen disk.old) text olds false
+            → LeavesFronts text schema.now olds (cut batch rows.now) (K.clock disk.old) (K.clock disk.new) (K.left_at disk.new) }
+        ensures time { IsTrue (K.honest disk.old) → GoesOn (K.clock disk.old) (K.clock disk.new) (K.left_at disk.old) (K.left_at disk.new) }
+
+        ensures each_fits { OnOk result ((count : ℕ) → count < length (cut batch rows.now) → HasRoom journal.old.gate (cut batch rows.now) count) }
+        ensures full { IsErrOf result fault.Full
+            → IsFilled K.len K.honest K.seen K.may_leave schema.now (cut batch rows.now) journal.old journal.new disk.old disk.new }
+
+        ensures unsound { IsErrOf result fault.Disk → journal.new.sound ≡ false }
+        ensures cause { IsErrOf result fault.Disk → Rose (K.faults disk.old) (K.faults disk.new) }
+        ensures later { K.faults disk.old ≤ K.faults disk.new }
+        ensures honest { K.honest disk.new ≡ K.honest disk.old }
+        ensures room { self.old ≤ self.new }
+    {
+        let mut rest = rows;
+        while !rest.is_empty() {
+            let count = fill(&mut self.block, &mut self.row, schema, rest, batch);
+            commit_block(journal, disk, &self.block)?;
+            rest = rest.split_at(count).1;
+        }
+        Ok(())
+    }
+}
+
+// Commits a block, where it has room.
+fn commit_block<K: Disk>(
+    journal: &mut Journal,
+    disk: &mut K,
+    block: &Block,
+) -> Result<(), WriteFault>
+    requires sound { IsTrue journal.old.sound }
+    requires unended { journal.old.ended ≡ false }
+    requires some { 1 ≤ block.now.count }
+    requires place { journal.old.gate < K.len disk.old }
+
+    ensures moved { OnOk result (journal.new ≡ after_block journal.old block.now) }
+    ensures done { OnOk result (IsTrue (K.honest disk.old)
+        → Commits journal.old.gate journal.new.gate block.now (K.seen disk.old) (K.seen disk.new)) }
+    ensures len { OnOk result (journal.new.gate < K.len disk.new) }
+    ensures settled { OnOk result (IsTrue (K.honest disk.old) → IsSettled (K.seen disk.new) (K.may_leave disk.new)) }
+
+    ensures any_moment { IsTrue (K.honest disk.old) → IsSettled (K.seen disk.old) (K.may_leave disk.old)
+        → LeavesWhole journal.old.gate block.now (K.seen disk.old) (LeftBetween (K.clock disk.old) (K.clock disk.new) (K.left_at disk.new)) }
+    ensures grows { IsTrue (K.honest disk.old) → IsSettled (K.seen disk.old) (K.may_leave disk.old)
+        → (text : List ℕ) (blocks : List Stored) → HoldsUpTo journal.old.gate (K.seen disk.old) text blocks false
+        → Grows text (K.clock disk.old) (K.clock disk.new) (K.left_at disk.new) }
+    ensures time { IsTrue (K.honest disk.old) → GoesOn (K.clock disk.old) (K.clock disk.new) (K.left_at disk.old) (K.left_at disk.new) }
+
+    ensures fits { OnOk result (journal.old.gate + 11 + length block.now.bytes ≤ MAX_SIZE) }
+    ensures full { IsErrOf result fault.Full → MAX_SIZE < journal.old.gate + 11 + length block.now.bytes }
+    ensures still { IsErrOf result fault.Full → (journal.new ≡ journal.old) × (disk.new ≡ disk.old) }
+
+    ensures unsound { IsErrOf result fault.Disk → journal.new.sound ≡ false }
+    ensures cause { IsErrOf result fault.Disk → Rose (K.faults disk.old) (K.faults disk.new) }
+    ensures later { K.faults disk.old ≤ K.faults disk.new }
+    ensures honest { K.honest disk.new ≡ K.honest disk.old }
+{
+    if !fits(journal.gate(), block.len()) {
+        return Err(WriteFault::Full);
+    }
+    journal.commit(disk, block)?;
+    Ok(())
+}
