@@ -1,9 +1,9 @@
 // The expression of a text.
-ghost use Rattle.std.specs.Prelude.{◌≡◌, ◌≤◌, ◌<◌, ◌&&◌, nat_lt, length, option_map, is_some, bytes_eq, IfOk, IfSome};
-ghost use Rattle.std.specs.Str.{all_ascii_digits};
+ghost use Rattle.std.specs.Prelude.{◌≡◌, ◌≤◌, length, option_map, is_some, IsTrue, IfOk, IfSome};
+ghost use Rattle.std.specs.Char.{is_ascii_digit};
 ghost use Rattle.std.specs.List.{list_all};
-ghost use Rattle.workflow_file.specs.Texts.{is_among, is_name, is_name_byte, is_lower};
-ghost use Rattle.expr_lang.specs.Texts.{words, is_column_name, comparison_of, are_digits, number_of, expression_of};
+ghost use Rattle.workflow_file.specs.Texts.{head_of, rest_of, is_among, is_name, is_name_byte, is_lower};
+ghost use Rattle.expr_lang.specs.Texts.{words, is_column_name, comparison_of, are_digits, number_of, compared_with, expression_of};
 ghost use Rattle.expr_lang.specs.Views.{expression};
 
 use crate::expr::{Comparison, Expr};
@@ -40,20 +40,45 @@ struct LentExpr<'t> {
     number: i64,
 }
 
+#[tactic(auto, unfolding(crate::specs::Texts::expression_of))]
 fn read(text: &str) -> Option<LentExpr<'_>>
     ensures read { option_map expression result ≡ expression_of text.now }
-    ensures short { IfSome result (λ p. length p.column.now ≤ 40) }
+    ensures short { IfSome result (λ e. length e.column.now ≤ 40) }
 {
-    let (column, rest) = text.split_once(' ')?;
-    let (word, digits) = rest.split_once(' ')?;
+    let Some((column, rest)) = split(text) else {
+        return None;
+    };
+    let Some((word, digits)) = split(rest) else {
+        return None;
+    };
     if !is_column_name(column) {
         return None;
     }
-    Some(LentExpr {
-        column,
-        comparison: comparison_of(word)?,
-        number: number_of(digits)?,
-    })
+    compare(column, comparison_of(word), number_of(digits))
+}
+
+// What stands before the first space, and what follows it.
+#[tactic(auto, unfolding(workflow_file::specs::Texts::head_of, workflow_file::specs::Texts::rest_of))]
+fn split(text: &str) -> Option<(&str, &str)>
+    ensures head { IfSome result (λ p. p.0.now ≡ head_of text.now) }
+    ensures rest { option_map (λ p. p.1.now) result ≡ rest_of text.now }
+{
+    text.split_once(' ')
+}
+
+fn compare(column: &str, comparison: Option<Comparison>, number: Option<i64>) -> Option<LentExpr<'_>>
+    requires { length column.now ≤ 40 }
+    ensures compared { option_map expression result ≡ compared_with column.now comparison number }
+    ensures short { IfSome result (λ e. length e.column.now ≤ 40) }
+{
+    match (comparison, number) {
+        (Some(comparison), Some(number)) => Some(LentExpr {
+            column,
+            comparison,
+            number,
+        }),
+        _ => None,
+    }
 }
 
 // A copy of a name.
@@ -68,7 +93,8 @@ fn name_of(alloc: Global, name: &str) -> Result<Text, Memory>
 }
 
 fn is_column_name(text: &str) -> bool
-    ensures { result ≡ is_column_name text.now }
+    ensures name { result ≡ is_column_name text.now }
+    ensures short { IsTrue result → length text.now ≤ 40 }
 {
     is_name(text) && !is_word(text)
 }
@@ -86,7 +112,8 @@ fn is_word(text: &str) -> bool
 
 #[tactic(auto, unfolding(workflow_file::specs::Texts::is_name))]
 fn is_name(text: &str) -> bool
-    ensures { result ≡ is_name text.now }
+    ensures name { result ≡ is_name text.now }
+    ensures short { IsTrue result → length text.now ≤ 40 }
 {
     let bytes = text.as_bytes();
     if bytes.is_empty() || bytes.len() > 40 {
@@ -131,14 +158,20 @@ fn comparison_of(word: &str) -> Option<Comparison>
 fn number_of(text: &str) -> Option<i64>
     ensures { result ≡ number_of text.now }
 {
-    if !are_digits(text) {
+    if !are_digits(text.as_bytes()) {
         return None;
     }
     text.parse::<i64>().ok()
 }
 
-fn are_digits(text: &str) -> bool
+fn are_digits(text: &[u8]) -> bool
     ensures { result ≡ are_digits text.now }
 {
-    !text.is_empty() && text.bytes().all(|b| b.is_ascii_digit())
+    !text.is_empty() && are_all_digits(text)
+}
+
+fn are_all_digits(text: &[u8]) -> bool
+    ensures { result ≡ list_all is_ascii_digit text.now }
+{
+    text.iter().all(|b| b.is_ascii_digit())
 }
