@@ -12,11 +12,11 @@ use mir.Syntax.{w64}
 own : IsNumeralModel (λ ds. list_all is_ascii_digit ds ≡ true) (digits_value 10)
 own = numerals_by_value _ (search rules)
 
-and-true-right : (a b : Bool) → (a && b) ≡ true → b ≡ true
+pub and-true-right : (a b : Bool) → (a && b) ≡ true → b ≡ true
 and-true-right true b h = h
 and-true-right false b h = cc
 
-and-true-left : (a b : Bool) → (a && b) ≡ true → a ≡ true
+pub and-true-left : (a b : Bool) → (a && b) ≡ true → a ≡ true
 and-true-left true b h = refl
 and-true-left false b h = h
 
