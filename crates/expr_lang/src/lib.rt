@@ -20,3 +20,6 @@ pub use expr::{Comparison, Expr, Truth};
 pub use laws::expression_laws;
 pub use reading::{is_built, parse};
 pub use rows::{truth, truth_at};
+
+#[cfg(test)]
+mod tests;
