@@ -66,7 +66,11 @@ fn split(text: &str) -> Option<(&str, &str)>
     text.split_once(' ')
 }
 
-fn compare(column: &str, comparison: Option<Comparison>, number: Option<i64>) -> Option<LentExpr<'_>>
+fn compare(
+    column: &str,
+    comparison: Option<Comparison>,
+    number: Option<i64>,
+) -> Option<LentExpr<'_>>
     requires { length column.now ≤ 40 }
     ensures compared { option_map expression result ≡ compared_with column.now comparison number }
     ensures short { IfSome result (λ e. length e.column.now ≤ 40) }

@@ -8,4 +8,4 @@ returns c =
     let text = c.args.text.now in
     c.ok.ensures.value
     ∙ parsed_digits text c.parse.result c.parse.ensures.value.0
-        (ap are_digits (sym c.as_bytes.ensures.value) ∙ sym c.are_digits.ensures ∙ c.if-not-are_digits.false)
+    (ap are_digits (sym c.as_bytes.ensures.value) ∙ sym c.are_digits.ensures ∙ c.if-not-are_digits.false)
