@@ -1,5 +1,5 @@
 -- Properties of a function of a list of tuples. Each is over all lists whose tuples fit.
-use Rattle.std.specs.Prelude.{◌≡◌, ◌≢◌, ◌⊎◌, ℕ, ◌<◌, List, [], ◌∷◌, map, length, slice_get, All, Bool, not, IsTrue, Option, Some, ⊤}
+use Rattle.std.specs.Prelude.{◌≡◌, ◌≢◌, ◌⊎◌, ℕ, ◌<◌, List, [], ◌∷◌, map, length, slice_get, All, Bool, not, IsTrue, Some, ⊤}
 use Rattle.std.specs.List.{filter, list_all, dedup, IsDistinct}
 use Rattle.tuple_schema.specs.Tuples.{part}
 use Rattle.list_algebra.specs.Bags.{Tuple, same, multiplicity, without, IsPartOf, SameBag}
