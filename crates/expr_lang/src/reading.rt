@@ -159,6 +159,7 @@ fn comparison_of(word: &str) -> Option<Comparison>
 }
 
 // The number of a text of digits, where it is below 2^63.
+#[tactic(auto, using(crate::proofs::Numbers::parsed_digits))]
 fn number_of(text: &str) -> Option<i64>
     ensures { result ≡ number_of text.now }
 {
