@@ -85,7 +85,7 @@ fn compare(
     }
 }
 
-// A copy of a name.
+// A copy of a name, which is never too long for a text.
 fn name_of(alloc: Global, name: &str) -> Result<Text, Memory>
     requires { length name.now ≤ 40 }
     ensures { IfOk result (λ t. t ≡ name.now) }
