@@ -9,10 +9,11 @@ use Rattle.flow_types.specs.declared.node.Kind.TheVariants as kind
 use Rattle.flow_types.specs.declared.node.Node.{Node}
 use Rattle.flow_types.specs.Names.{names_in}
 
--- a projection takes these places of the input, and has a column for each
-pub record IsProjection (input : List Column) (from : List ℕ) (columns : List Column) : Type 0 where
+-- these places of the input are taken, and each gives a column of whole numbers
+pub record Takes (input : List Column) (from : List ℕ) (columns : List Column) : Type 0 where
   pub within : All (λ place. place < length input) from
   pub each : length columns ≡ length from
+  pub ints : All IsInt columns
 
 -- a node without an input is a source
 abbrev pub IsFirst : Kind → Type 0
@@ -24,7 +25,7 @@ IsFirst (kind.Project from) = ⊥
 abbrev pub IsOver : List Column → Kind → List Column → Type 0
 IsOver input (kind.Source s) columns = ⊥
 IsOver input (kind.Select test) columns = (columns ≡ input) × IsSome (place_of (names_in input) test.column)
-IsOver input (kind.Project from) columns = IsProjection input from columns
+IsOver input (kind.Project from) columns = Takes input from columns
 
 -- the node stands behind the other, or first
 abbrev pub Follows : Option Node → Node → Type 0

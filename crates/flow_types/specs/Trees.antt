@@ -20,6 +20,11 @@ unfoldable pub tree_below : List (List ℕ) → ℕ → ℕ → Tree
 tree_below links zero place = node place no_trees
 tree_below links (suc depth) place = node place (trees_of (tree_below links depth) (get_or links place []))
 
+-- the inputs of a node that are in its tree
+abbrev pub inputs_below : List (List ℕ) → ℕ → ℕ → List ℕ
+inputs_below links zero place = []
+inputs_below links (suc depth) place = get_or links place []
+
 abbrev mutual
   -- the nodes of a tree, inputs first
   pub in_order : Tree → List ℕ

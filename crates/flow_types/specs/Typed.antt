@@ -32,10 +32,13 @@ new_name text = name_from (head_of text) (rest_of text)
 abbrev pub column_of : List Column → List ℕ → Option Column
 column_of columns name = option_and_then (slice_get columns) (place_of (names_in columns) name)
 
+-- a column under another name
+abbrev pub renamed : List ℕ → Column → Column
+renamed name c = record { name = name; kind = c.kind; nullable = c.nullable }
+
 -- the column that a text of a projection takes, under its new name
 abbrev pub output_column : List Column → List ℕ → Option Column
-output_column columns text =
-    option_map (λ c. record { name = new_name text; kind = c.kind; nullable = c.nullable }) (column_of columns (head_of text))
+output_column columns text = option_map (renamed (new_name text)) (column_of columns (head_of text))
 
 -- the columns of a projection
 abbrev pub output_columns : List Column → List (List ℕ) → List Column

@@ -1,12 +1,12 @@
 // The graph of a flow. At this stage a node has at most one input, so a link is one place or none.
-ghost use Rattle.std.specs.Prelude.{◌≡◌, ◌<◌, ◌≤◌, ◌==◌, ◌++◌, [], ℕ, map, count_by, length, vec_len, get_or, option_copied, option_to_list, IsTrue, IfOk, IfSome, OnOk};
+ghost use Rattle.std.specs.Prelude.{◌≡◌, ◌<◌, ◌≤◌, ◌==◌, ◌++◌, [], ℕ, Some, false, is_some, map, filter_map, count_by, length, vec_len, get_or, option_copied, option_to_list, IsTrue, IfOk, IfSome, OnOk};
 ghost use Rattle.std.specs.List.{list_any};
 ghost use Rattle.tuple_schema.specs.Stops.{Gives, GivesView, IfFault};
 ghost use Rattle.workflow_file.specs.Kept.{KeepsRules};
 ghost use Rattle.expr_lang.specs.Truths.{place_of};
 ghost use Rattle.flow_types.specs.Built.{is_built};
-ghost use Rattle.flow_types.specs.Trees.{tree_below, in_order};
-ghost use Rattle.flow_types.specs.Graph.{names_of, needs_of, links_of, links_in, is_link, AreWithin, fault_at, names_differ, inputs_exist, root_at, uses_of, used_once, all_reached, flow_tree, graph_of};
+ghost use Rattle.flow_types.specs.Trees.{tree_below, inputs_below, in_order};
+ghost use Rattle.flow_types.specs.Graph.{names_of, needs_of, links_of, links_in, is_link, AreWithin, fault_at, names_differ, input_fault, inputs_exist, root_at, uses_of, used_once, all_reached, flow_tree, graph_of};
 
 use crate::fault::{NodeId, SchemaCause, SchemaFault};
 use crate::names::{again, place_of};
@@ -89,10 +89,14 @@ fn input_of(raw: &RawFlow, place: usize) -> Option<&Text>
 {
     let sources = raw.sources.items();
     let nodes = raw.nodes.items();
-    if place < sources.len() || place - sources.len() >= nodes.len() {
+    if place < sources.len() {
         return None;
     }
-    nodes[place - sources.len()].input.as_ref()
+    let below = place - sources.len();
+    if below >= nodes.len() {
+        return None;
+    }
+    nodes[below].input.as_ref()
 }
 
 // The input of each node, or the first that isn't there.
@@ -111,30 +115,34 @@ fn links_of(
 {
     let mut links = Vec::new(alloc);
     for place in 0..names.len() {
-        let link = match input_of(raw, place) {
-            None => None,
-            Some(name) => Some(input_at(names, name, place)?),
-        };
-        links.push(link)?;
+        links.push(link_of(raw, names, place)?)?;
     }
     Ok(links)
 }
 
-// The place of an input that the node at a place names.
-fn input_at(names: &[&Text], name: &Text, place: usize) -> Result<usize, Stop<SchemaFault>>
-    requires { place < 256 }
-    ensures there { IfOk result (λ input. place_of (map (λ n. n.now) names.now) name.now ≡ Some input) }
-    ensures within { IfOk result (λ input. input < length names.now) }
-    ensures missing { IfFault result (λ fault. (place_of (map (λ n. n.now) names.now) name.now ≡ None) × (fault ≡ fault_at place (SchemaCause.NoInput name.now))) }
+// The place of the input of the node at a place.
+fn link_of(
+    raw: &RawFlow,
+    names: &[&Text],
+    place: usize,
+) -> Result<Option<usize>, Stop<SchemaFault>>
+    requires kept { KeepsRules raw.now }
+    requires built { IsTrue (is_built raw.now) }
+    requires place { place < 256 }
+    ensures link { IfOk result (λ link. option_to_list link ≡ filter_map (place_of (map (λ n. n.now) names.now)) (get_or (needs_of raw.now) place [])) }
+    ensures there { OnOk result (is_some (input_fault (map (λ n. n.now) names.now) (needs_of raw.now) place) ≡ false) }
+    ensures within { IfOk result (λ link. IfSome link (λ input. input < length names.now)) }
+    ensures missing { IfFault result (λ fault. input_fault (map (λ n. n.now) names.now) (needs_of raw.now) place ≡ Some fault) }
 {
-    match place_of(names, name) {
-        Some(input) => Ok(input),
-        None => {
-            let name = name.copy()?;
-            let cause = SchemaCause::NoInput { name };
-            Err(Stop::Fault(fault_at(place, cause)))
-        }
+    let Some(name) = input_of(raw, place) else {
+        return Ok(None);
+    };
+    if let Some(input) = place_of(names, name) {
+        return Ok(Some(input));
     }
+    let name = name.copy()?;
+    let cause = SchemaCause::NoInput { name };
+    Err(Stop::Fault(fault_at(place, cause)))
 }
 
 // The place of the table's input.
@@ -168,6 +176,7 @@ fn links_to(links: &[Option<usize>], place: usize) -> usize
 }
 
 // How often the node at a place is an input, the table's among them.
+#[tactic(auto, using(crate::proofs::Uses::uses_is))]
 fn uses_of(root: usize, links: &[Option<usize>], place: usize) -> usize
     requires { length links.now ≤ 80 }
     ensures { result ≡ uses_of root (links_in links.now) place }
@@ -188,16 +197,16 @@ fn used_once(root: usize, links: &[Option<usize>]) -> Result<(), Stop<SchemaFaul
     Ok(())
 }
 
-/// The input of the node at a place.
-pub fn link_at(links: &[Option<usize>], place: usize) -> Option<usize>
-    ensures link { option_to_list result ≡ get_or (links_in links.now) place [] }
+/// The input of the node at a place, if a tree of this depth has it.
+pub fn link_below(links: &[Option<usize>], depth: usize, place: usize) -> Option<usize>
+    ensures link { option_to_list result ≡ inputs_below (links_in links.now) depth place }
+    ensures deeper { IfSome result (λ _. 0 < depth) }
     ensures within { AreWithin links.now → IfSome result (λ input. input < length links.now) }
 {
-    if place < links.len() {
-        links[place]
-    } else {
-        None
+    if depth == 0 || place >= links.len() {
+        return None;
     }
+    links[place]
 }
 
 // Puts the nodes of a tree at the end of those that are reached, inputs first.
@@ -209,10 +218,9 @@ fn reach(
 ) -> Result<(), Memory>
     ensures { OnOk result (reached.new.items ≡ reached.old.items ++ in_order (tree_below (links_in links.now) depth place)) }
 {
-    if depth > 0 {
-        if let Some(input) = link_at(links, place) {
-            reach(links, depth - 1, input, reached)?;
-        }
+    match link_below(links, depth, place) {
+        None => {}
+        Some(input) => reach(links, depth - 1, input, reached)?,
     }
     reached.push(place)?;
     Ok(())

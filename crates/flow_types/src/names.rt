@@ -1,5 +1,5 @@
 // Names in lists: which comes twice, and which isn't there.
-ghost use Rattle.std.specs.Prelude.{◌≡◌, ◌<◌, map, length, bytes_eq, filter_map, IfOk, IfSome};
+ghost use Rattle.std.specs.Prelude.{◌≡◌, ◌<◌, map, length, bytes_eq, position, filter_map, IfOk, IfSome};
 ghost use Rattle.std.specs.List.{list_any};
 ghost use Rattle.tuple_schema.specs.Stops.{Gives, GivesView};
 ghost use Rattle.workflow_file.specs.Texts.{is_among};
@@ -34,13 +34,22 @@ pub fn names_in(alloc: Global, columns: &[Column]) -> Result<Vec<&Text>, Memory>
 }
 
 /// The first place of a name.
+#[tactic(auto, using(crate::proofs::Lists::position_mapped))]
 pub fn place_of(names: &[&Text], name: &Text) -> Option<usize>
     ensures place { result ≡ place_of (map (λ n. n.now) names.now) name.now }
+    ensures within { IfSome result (λ place. place < length names.now) }
+{
+    first_place(names, name)
+}
+
+fn first_place(names: &[&Text], name: &Text) -> Option<usize>
+    ensures place { result ≡ position (λ n. bytes_eq n.now name.now) names.now }
     ensures within { IfSome result (λ place. place < length names.now) }
 {
     names.iter().position(|n| **n == *name)
 }
 
+#[tactic(auto, using(crate::proofs::Lists::list_any_mapped))]
 fn is_among(names: &[&Text], name: &Text) -> bool
     ensures { result ≡ is_among (map (λ n. n.now) names.now) name.now }
 {
@@ -54,6 +63,7 @@ fn is_any(names: &[&Text], name: &Text) -> bool
 }
 
 /// The least place of a name that an earlier one is.
+#[tactic(auto, using(crate::proofs::Places::least_is, crate::proofs::Places::least_none))]
 pub fn again(names: &[&Text]) -> Option<usize>
     ensures least { result ≡ again (map (λ n. n.now) names.now) }
     ensures within { IfSome result (λ place. place < length names.now) }
@@ -77,8 +87,8 @@ pub fn no_double(names: &[&Text]) -> Result<(), Stop<SchemaCause>>
     Err(Stop::Fault(SchemaCause::DoubleColumn { column }))
 }
 
-/// The places of the names wanted, or the first that isn't there.
-pub fn places_of(
+// The places of the names wanted, or the first that isn't there.
+fn places_of(
     alloc: Global,
     names: &[&Text],
     wanted: &[&Text],

@@ -1,6 +1,6 @@
 // The columns and kinds of nodes.
-ghost use Rattle.std.specs.Prelude.{◌≡◌, ◌<◌, ◌≤◌, ◌+◌, ℕ, None, map, length, filter_map, option_and_then, option_copied, option_to_list, IfOk, IfSome, All};
-ghost use Rattle.tuple_schema.specs.Stops.{Gives, GivesView};
+ghost use Rattle.std.specs.Prelude.{◌≡◌, ◌<◌, ◌≤◌, ◌+◌, ℕ, [], ◌∷◌, Some, None, Ok, map, length, filter_map, option_and_then, option_copied, option_to_list, IfOk, IfSome, All};
+ghost use Rattle.tuple_schema.specs.Stops.{Gives, GivesView, IfFault};
 ghost use Rattle.tuple_schema.specs.Schemas.{IsSchema};
 ghost use Rattle.workflow_file.specs.Texts.{head_of};
 ghost use Rattle.workflow_file.specs.Kept.{KeepsRules, KeepsSource, KeepsNode};
@@ -10,16 +10,16 @@ ghost use Rattle.expr_lang.specs.Truths.{place_of};
 ghost use Rattle.flow_types.specs.Names.{names_in, unknown, no_double, no_unknown};
 ghost use Rattle.flow_types.specs.Trees.{tree_below};
 ghost use Rattle.flow_types.specs.Graph.{id_of, links_of, links_in, AreWithin};
-ghost use Rattle.flow_types.specs.Typed.{new_name, output_columns, source_cols, projection, typed_source, typed_select, typed_project, typed_over, typed_node, at_node, typed_tree};
-ghost use Rattle.flow_types.specs.Chain.{IsNode, IsChain};
+ghost use Rattle.flow_types.specs.Typed.{new_name, renamed, output_columns, source_cols, projection, typed_source, typed_select, typed_project, typed_over, typed_node, at_node, typed_tree};
+ghost use Rattle.flow_types.specs.Chain.{Takes, IsNode, IsChain};
 
 use crate::fault::{NodeId, SchemaCause, SchemaFault};
-use crate::graph::{fault_at, link_at};
-use crate::names::{cols_if, names_in, no_double, place_of, places_of, texts_of};
+use crate::graph::{fault_at, link_below};
+use crate::names::{cols_if, names_in, no_double, place_of};
 use crate::node::{Cols, Inputs, Kind, Node, Source};
 use expr_lang::Expr;
 use std::alloc::Global;
-use tuple_schema::{Column, ColumnKind, Memory, Names, Schema, Stop, Text};
+use tuple_schema::{Column, ColumnKind, Memory, Schema, Stop, Text};
 use workflow_file::{RawFlow, RawNode, RawSource};
 
 /// The typed nodes of a tree, inputs first, or the first fault.
@@ -37,12 +37,7 @@ pub fn type_tree(
     ensures nodes { GivesView (λ v. v.items) result (typed_tree raw.now (tree_below (links_in links.now) depth place)) }
     ensures chain { IfOk result (λ v. IsChain v.items) }
 {
-    let input = if depth == 0 {
-        None
-    } else {
-        link_at(links, place)
-    };
-    let mut nodes = match input {
+    let mut nodes = match link_below(links, depth, place) {
         None => Vec::new(alloc),
         Some(input) => type_tree(alloc, raw, links, depth - 1, input)?,
     };
@@ -60,7 +55,8 @@ fn type_node(
 ) -> Result<Node, Stop<SchemaFault>>
     requires kept { KeepsRules raw.now }
     requires place { place < length raw.now.sources + length raw.now.nodes }
-    requires source { place < length raw.now.sources → input ≡ None }
+    requires source { place < length raw.now.sources → option_copied input ≡ None }
+    requires ints { IfSome (option_copied input) (λ n. All IsInt n.schema) }
     ensures node { Gives result (at_node place (typed_node raw.now place (option_to_list (option_copied input.entry)))) }
     ensures follows { IfOk result (IsNode (option_copied input.entry)) }
 {
@@ -79,7 +75,8 @@ fn type_at(
 ) -> Result<Node, Stop<SchemaCause>>
     requires kept { KeepsRules raw.now }
     requires place { place < length raw.now.sources + length raw.now.nodes }
-    requires source { place < length raw.now.sources → input ≡ None }
+    requires source { place < length raw.now.sources → option_copied input ≡ None }
+    requires ints { IfSome (option_copied input) (λ n. All IsInt n.schema) }
     ensures node { Gives result (typed_node raw.now place (option_to_list (option_copied input.entry))) }
     ensures follows { IfOk result (IsNode (option_copied input.entry)) }
 {
@@ -186,7 +183,8 @@ fn type_over(
     node: &RawNode,
     input: Option<&Node>,
 ) -> Result<Node, Stop<SchemaCause>>
-    requires { KeepsNode node.now }
+    requires kept { KeepsNode node.now }
+    requires ints { IfSome (option_copied input) (λ n. All IsInt n.schema) }
     ensures node { Gives result (typed_over id node.now (option_copied input.entry)) }
     ensures follows { IfOk result (IsNode (option_copied input.entry)) }
 {
@@ -206,6 +204,7 @@ fn type_select(
     node: &RawNode,
     input: &Node,
 ) -> Result<Node, Stop<SchemaCause>>
+    requires { All IsInt input.now.schema }
     ensures node { Gives result (typed_select id node.now input.now (option_and_then expression_of node.now.test)) }
     ensures follows { IfOk result (IsNode (Some input.now)) }
 {
@@ -254,20 +253,24 @@ fn type_project(
     node: &RawNode,
     input: &Node,
 ) -> Result<Node, Stop<SchemaCause>>
-    requires { IfSome node.now.columns (λ texts. (1 ≤ length texts) × (length texts ≤ 64)) }
+    requires some { IfSome node.now.columns (λ texts. 1 ≤ length texts) }
+    requires few { IfSome node.now.columns (λ texts. length texts ≤ 64) }
+    requires ints { All IsInt input.now.schema }
     ensures node { Gives result (typed_project id node.now input.now node.now.columns) }
     ensures follows { IfOk result (IsNode (Some input.now)) }
 {
     let Some(texts) = &node.columns else {
         return Err(Stop::Fault(SchemaCause::NotReached));
     };
-    let (from, columns) = projection(alloc, input.schema.columns(), texts.items())?;
+    let taken = projection(alloc, input.schema.columns(), texts.items())?;
     Ok(Node {
         id,
         name: node.name.copy()?,
-        kind: Kind::Project { from },
+        kind: Kind::Project {
+            from: Cols::of(taken.places),
+        },
         inputs: Inputs::one(alloc, input.id)?,
-        schema: Schema::of(columns),
+        schema: Schema::of(taken.columns),
     })
 }
 
@@ -276,13 +279,16 @@ fn projection(
     alloc: Global,
     columns: &[Column],
     texts: &[Text],
-) -> Result<(Cols, Vec<Column>), Stop<SchemaCause>>
-    ensures { GivesView (λ p. (p.0, p.1.items)) result (projection columns.now texts.now) }
+) -> Result<Taken, Stop<SchemaCause>>
+    requires { All IsInt columns.now }
+    ensures taken { GivesView (λ t. (t.places.items, t.columns.items)) result (projection columns.now texts.now) }
+    ensures distinct { IfOk result (λ t. no_double (names_in t.columns.items) ≡ Ok tt) }
+    ensures takes { IfOk result (λ t. Takes columns.now t.places.items t.columns.items) }
+    ensures len { IfOk result (λ t. length t.columns.items ≡ length texts.now) }
 {
-    let places = taken(alloc, columns, texts)?;
-    let outputs = outputs(alloc, columns, texts, &places)?;
-    differ(alloc, &outputs)?;
-    Ok((Cols::of(places), outputs))
+    let taken = take_columns(alloc, columns, texts)?;
+    differ(alloc, &taken.columns)?;
+    Ok(taken)
 }
 
 // Refuses the first name that two columns have.
@@ -293,52 +299,58 @@ fn differ(alloc: Global, columns: &[Column]) -> Result<(), Stop<SchemaCause>>
     no_double(&names)
 }
 
-// The places of the columns that the texts take.
-fn taken(
-    alloc: Global,
-    columns: &[Column],
-    texts: &[Text],
-) -> Result<Vec<usize>, Stop<SchemaCause>>
+// Places of columns, and the columns that come of them.
+#[derive(Drop)]
+struct Taken {
+    places: Vec<usize>,
+    columns: Vec<Column>,
+}
+
+// What the texts take of the columns, or the first that isn't there.
+fn take_columns(alloc: Global, columns: &[Column], texts: &[Text]) -> Result<Taken, Stop<SchemaCause>>
+    requires { All IsInt columns.now }
     ensures unknown { GivesView (λ _. tt) result (no_unknown (names_in columns.now) (map head_of texts.now)) }
-    ensures places { IfOk result (λ v. v.items ≡ filter_map (place_of (names_in columns.now)) (map head_of texts.now)) }
+    ensures places { IfOk result (λ t. t.places.items ≡ filter_map (place_of (names_in columns.now)) (map head_of texts.now)) }
+    ensures columns { IfOk result (λ t. t.columns.items ≡ output_columns columns.now texts.now) }
+    ensures takes { IfOk result (λ t. Takes columns.now t.places.items t.columns.items) }
+    ensures len { IfOk result (λ t. length t.columns.items ≡ length texts.now) }
 {
-    let heads = heads_of(alloc, texts)?;
-    let wanted = texts_of(alloc, heads.items())?;
     let names = names_in(alloc, columns)?;
-    places_of(alloc, &names, &wanted)
-}
-
-fn heads_of(alloc: Global, texts: &[Text]) -> Result<Names, Memory>
-    ensures { IfOk result (λ heads. heads ≡ map head_of texts.now) }
-{
-    let mut heads = Names::new(alloc);
-    for text in texts {
-        heads.push(head_of(alloc, text)?)?;
-    }
-    Ok(heads)
-}
-
-// The columns that are taken, under their new names.
-fn outputs(
-    alloc: Global,
-    columns: &[Column],
-    texts: &[Text],
-    places: &[usize],
-) -> Result<Vec<Column>, Memory>
-    requires there { unknown (names_in columns.now) (map head_of texts.now) ≡ None }
-    requires places { places.now ≡ filter_map (place_of (names_in columns.now)) (map head_of texts.now) }
-    ensures { IfOk result (λ v. v.items ≡ output_columns columns.now texts.now) }
-{
+    let mut places = Vec::new(alloc);
     let mut outputs = Vec::new(alloc);
-    for i in 0..texts.len() {
-        let column = &columns[places[i]];
-        outputs.push(Column {
-            name: new_name(alloc, &texts[i])?,
-            kind: column.kind,
-            nullable: column.nullable,
-        })?;
+    for text in texts {
+        let place = taken_place(alloc, &names, text)?;
+        outputs.push(output(alloc, &columns[place], text)?)?;
+        places.push(place)?;
     }
-    Ok(outputs)
+    Ok(Taken {
+        places,
+        columns: outputs,
+    })
+}
+
+// The place of the column that a text takes.
+fn taken_place(alloc: Global, names: &[&Text], text: &Text) -> Result<usize, Stop<SchemaCause>>
+    ensures there { IfOk result (λ place. Some place ≡ place_of (map (λ n. n.now) names.now) (head_of text.now)) }
+    ensures within { IfOk result (λ place. place < length names.now) }
+    ensures missing { IfFault result (λ cause. (place_of (map (λ n. n.now) names.now) (head_of text.now) ≡ None) × (cause ≡ SchemaCause.UnknownColumn (head_of text.now))) }
+{
+    let column = head_of(alloc, text)?;
+    match place_of(names, &column) {
+        Some(place) => Ok(place),
+        None => Err(Stop::Fault(SchemaCause::UnknownColumn { column })),
+    }
+}
+
+// The column under the name that the text gives it.
+fn output(alloc: Global, column: &Column, text: &Text) -> Result<Column, Memory>
+    ensures { IfOk result (λ c. c ≡ renamed (new_name text.now) column.now) }
+{
+    Ok(Column {
+        name: new_name(alloc, text)?,
+        kind: column.kind,
+        nullable: column.nullable,
+    })
 }
 
 // The name that a column gets from `NAME` or `NAME as NAME`.

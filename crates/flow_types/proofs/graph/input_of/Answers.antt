@@ -1,0 +1,14 @@
+use Rattle.std.proofs.Common.{◌≡◌, ◌+◌, ◌-◌, sym, ap, ◌∙◌, length, option_to_list, arith}
+use Rattle.flow_types.proofs.OneInput.{needs_source, needs_past, needs_node}
+use Rattle.flow_types.proofs.graph.input_of.Goals as goal
+
+pub returns-then-place-sources : goal.returns-then-place-sources
+returns-then-place-sources c = sym (needs_source c.args.raw.now c.args.place (omega arith))
+
+pub returns-then-below-nodes : goal.returns-then-below-nodes
+returns-then-below-nodes c = sym (needs_past c.args.raw.now c.args.place (c.args.place - length c.args.raw.now.sources) (omega arith) (omega arith))
+
+pub returns : goal.returns
+returns c =
+    rw c.as_ref.ensures.value
+    (sym (needs_node c.args.raw.now c.args.place (c.args.place - length c.args.raw.now.sources) c.index-nodes-below.result (omega arith) (omega arith) c.index-nodes-below.is c.requires.kept c.requires.built))
