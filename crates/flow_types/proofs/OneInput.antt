@@ -85,3 +85,8 @@ length-needs flow = simp (length-append, length-map)
 
 pub length-names : (flow : RawFlow) → length (names_of flow) ≡ length flow.sources + length flow.nodes
 length-names flow = simp (length-append, length-map)
+
+pub needs_seen : {X : Type 0} (see : X → List ℕ) (xs : List X) (flow : RawFlow) → map see xs ≡ names_of flow → length (needs_of flow) ≡ length xs
+needs_seen see xs flow is =
+    let seen : length (map see xs) ≡ length xs = rw length-map refl in
+    length-needs flow ∙ (sym (ap length is) ∙ seen)

@@ -1,5 +1,5 @@
 -- The typed flow: the columns and the kind of each node, or its first fault.
-use Rattle.std.specs.Prelude.{ℕ, ◌-◌, List, [], ◌∷◌, ◌++◌, length, map, filter_map, flat_map, slice_get, codes, bytes_eq, unwrap_or, if◌then◌else◌, Option, Some, None, option_map, option_and_then, Result, Ok, Err}
+use Rattle.std.specs.Prelude.{ℕ, ◌-◌, List, [], ◌∷◌, ◌++◌, length, map, filter_map, flat_map, slice_get, codes, bytes_eq, unwrap_or, if◌then◌else◌, Option, Some, None, option_map, option_and_then, option_to_list, Result, Ok, Err}
 use Rattle.tuple_schema.specs.Stops.{◌>>=◌}
 use Rattle.tuple_schema.specs.declared.schema.Column.{Column}
 use Rattle.workflow_file.specs.declared.raw.RawSource.{RawSource}
@@ -127,6 +127,12 @@ at_node place (Err why) = Err (fault_at place why)
 -- the last node of a list
 abbrev pub last_of : List Node → Option Node
 last_of nodes = slice_get nodes (length nodes - 1)
+
+-- these nodes, and the one at a place behind them, over the last of them
+abbrev pub typed_last : RawFlow → ℕ → List Node → Result (List Node) SchemaFault
+typed_last flow place nodes = do
+  last ← at_node place (typed_node flow place (option_to_list (last_of nodes)))
+  Ok (nodes ++ last ∷ [])
 
 abbrev mutual
   -- the typed nodes of a tree: those of its inputs' trees, then the node itself over the last of each

@@ -10,8 +10,8 @@ ghost use Rattle.expr_lang.specs.Truths.{place_of};
 ghost use Rattle.flow_types.specs.Names.{names_in, unknown, no_double, no_unknown};
 ghost use Rattle.flow_types.specs.Trees.{tree_below};
 ghost use Rattle.flow_types.specs.Graph.{id_of, links_of, links_in, AreWithin};
-ghost use Rattle.flow_types.specs.Typed.{new_name, renamed, output_columns, source_cols, projection, typed_source, typed_select, typed_project, typed_over, typed_node, at_node, typed_tree};
-ghost use Rattle.flow_types.specs.Chain.{Takes, IsNode, IsChain};
+ghost use Rattle.flow_types.specs.Typed.{new_name, renamed, output_columns, source_cols, projection, typed_source, typed_select, typed_project, typed_over, typed_node, at_node, typed_last, typed_tree};
+ghost use Rattle.flow_types.specs.Chain.{Takes, IsNode, IsChainFrom, IsChain};
 
 use crate::fault::{NodeId, SchemaCause, SchemaFault};
 use crate::graph::{fault_at, link_below};
@@ -37,10 +37,27 @@ pub fn type_tree(
     ensures nodes { GivesView (λ v. v.items) result (typed_tree raw.now (tree_below (links_in links.now) depth place)) }
     ensures chain { IfOk result (λ v. IsChain v.items) }
 {
-    let mut nodes = match link_below(links, depth, place) {
-        None => Vec::new(alloc),
-        Some(input) => type_tree(alloc, raw, links, depth - 1, input)?,
+    let Some(input) = link_below(links, depth, place) else {
+        return type_last(alloc, raw, place, Vec::new(alloc));
     };
+    let nodes = type_tree(alloc, raw, links, depth - 1, input)?;
+    type_last(alloc, raw, place, nodes)
+}
+
+// The nodes, and the one at a place behind them.
+fn type_last(
+    alloc: Global,
+    raw: &RawFlow,
+    place: usize,
+    mut nodes: Vec<Node>,
+) -> Result<Vec<Node>, Stop<SchemaFault>>
+    requires kept { KeepsRules raw.now }
+    requires place { place < length raw.now.sources + length raw.now.nodes }
+    requires source { place < length raw.now.sources → nodes.items ≡ [] }
+    requires chain { IsChainFrom None nodes.items }
+    ensures nodes { GivesView (λ v. v.items) result (typed_last raw.now place nodes.items) }
+    ensures chain { IfOk result (λ v. IsChain v.items) }
+{
     let node = type_node(alloc, raw, place, nodes.as_slice().last())?;
     nodes.push(node)?;
     Ok(nodes)
