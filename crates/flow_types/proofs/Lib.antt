@@ -5,5 +5,5 @@ pub mod Lookups
 pub mod Reached
 pub mod OneInput
 pub mod Links
-pub mod Typing
+pub mod TypedTrees
 pub mod Chains
