@@ -1,0 +1,5 @@
+pub mod Same
+pub mod Counted
+pub mod Carried
+pub mod Clustered
+pub mod Instances
