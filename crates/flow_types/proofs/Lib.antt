@@ -7,3 +7,4 @@ pub mod OneInput
 pub mod Links
 pub mod TypedTrees
 pub mod Chains
+pub mod Columns

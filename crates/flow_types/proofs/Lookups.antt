@@ -31,3 +31,9 @@ module _ {X : Type 0} (see : X → List ℕ) where
   again_none xs n h fails =
       let fewer : length (map see xs) ≤ n = rw length-map h in
       sym (least_none (length (map see xs)) (is_again (map see xs)) (λ k less. fails k (omega arith)))
+
+pub filter_more : {X Y : Type 0} (f : X → Option Y) (ws : List X) (i : ℕ) (x : X) (y : Y) → i < length ws → x ≡ get_or ws i x → Some y ≡ f x
+    → filter_map f (take (i + 1) ws) ≡ filter_map f (take i ws) ++ y ∷ []
+filter_more f ws i x y h is gives =
+    let one : filter_map f (x ∷ []) ≡ y ∷ [] = rw (← gives) refl in
+    rw (take_more ws i x h, ← is, filter_map-append, one) refl

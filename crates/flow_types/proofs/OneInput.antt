@@ -1,5 +1,5 @@
 -- The input of a selection or a projection.
-use Rattle.std.proofs.Common.{◌≡◌, ℕ, zero, suc, ◌+◌, ◌-◌, ◌<◌, ◌≤◌, List, [], ◌∷◌, ◌++◌, length, map, get_or, codes, bytes_eq, Bool, true, false, ◌&&◌, ◌||◌, is_some, is_none, IsTrue, refl, ap, sym, ◌∙◌, ◌⊎◌, inl, inr, Option, Some, None, option_to_list, arith}
+use Rattle.std.proofs.Common.{◌≡◌, ℕ, zero, suc, ◌+◌, ◌-◌, ◌<◌, ◌≤◌, List, [], ◌∷◌, ◌++◌, length, map, filter_map, get_or, codes, bytes_eq, Bool, true, false, ◌&&◌, ◌||◌, is_some, is_none, IsTrue, refl, ap, sym, ◌∙◌, ◌⊎◌, inl, inr, Option, Some, None, option_to_list, arith}
 use Rattle.std.specs.List.{list_all}
 use Rattle.std.proofs.lemmas.Bool.{and_parts, or_cases, cases_Bool, both_ways}
 use Rattle.std.proofs.lemmas.List.Folds.{list_all_at}
@@ -11,7 +11,9 @@ use Rattle.workflow_file.specs.Texts.{is_among}
 use Rattle.workflow_file.specs.Nodes.{keys_of}
 use Rattle.workflow_file.specs.Kept.{KeepsNode, KeepsRules}
 use Rattle.flow_types.specs.Built.{is_built_node, is_built_select, is_project, is_built}
-use Rattle.flow_types.specs.Graph.{input_names, names_of, needs_of}
+use Rattle.flow_types.specs.Graph.{input_names, names_of, needs_of, links_of, links_in}
+use Rattle.flow_types.specs.Trees.{inputs_below}
+use Rattle.expr_lang.specs.Truths.{place_of}
 
 -- the kinds that are built have no other input
 no_other_input : (kind : List ℕ) → (kind ≡ codes "select") ⊎ (kind ≡ codes "project")
@@ -90,3 +92,17 @@ pub needs_seen : {X : Type 0} (see : X → List ℕ) (xs : List X) (flow : RawFl
 needs_seen see xs flow is =
     let seen : length (map see xs) ≡ length xs = rw length-map refl in
     length-needs flow ∙ (sym (ap length is) ∙ seen)
+
+-- a source has no input
+pub source_leaf : (flow : RawFlow) (links : List (List ℕ)) (depth place : ℕ) → links ≡ links_of flow → place < length flow.sources → inputs_below links depth place ≡ []
+source_leaf flow links zero place is h = refl
+source_leaf flow links (suc depth) place is h =
+    let counted = length-needs flow ∙ length-names flow in
+    let within : place < length (needs_of flow) = omega arith in
+    rw (is, get_or-map (filter_map (place_of (names_of flow))) (needs_of flow) place [] [] within, needs_source flow place h) refl
+
+pub count_links : (flow : RawFlow) (links : List (Option ℕ)) → links_in links ≡ links_of flow → length links ≡ length flow.sources + length flow.nodes
+count_links flow links is =
+    let seen : length (links_in links) ≡ length links = rw length-map refl in
+    let all : length (links_of flow) ≡ length (needs_of flow) = rw length-map refl in
+    sym seen ∙ (ap length is ∙ (all ∙ (length-needs flow ∙ length-names flow)))

@@ -42,3 +42,6 @@ module _ (root : ℕ) (links : List (Option ℕ)) (reached : List ℕ) where
       let fewer : length (links_in links) ≤ n = rw length-map h in
       let none : (k : ℕ) → k < length (links_in links) → is_missing k ≡ false = λ k less. rw (← in_flow is, all k (omega arith)) refl in
       rw (least_none (length (links_in links)) is_missing none) refl
+
+pub flow_tree_is : (root : ℕ) (links : List (Option ℕ)) → flow_tree root (links_in links) ≡ tree_below (links_in links) (length links - 1) root
+flow_tree_is root links = rw length-map refl

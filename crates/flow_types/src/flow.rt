@@ -51,6 +51,7 @@ impl Flow {
     }
 }
 
+#[tactic(auto, unfolding(crate::specs::Typed::typed), using(crate::proofs::Reached::flow_tree_is))]
 /// The typed flow, or the first fault of the raw one. A name that comes twice is told before an input
 /// that isn't there, then a node that is used twice, one that isn't reached, and each node's own
 /// columns, from the source on.

@@ -1,8 +1,8 @@
 // The columns and kinds of nodes.
-ghost use Rattle.std.specs.Prelude.{◌≡◌, ◌<◌, ◌≤◌, ◌+◌, ℕ, [], ◌∷◌, Some, None, Ok, map, length, filter_map, option_and_then, option_copied, option_to_list, IfOk, IfSome, All};
+ghost use Rattle.std.specs.Prelude.{◌≡◌, ◌<◌, ◌≤◌, ◌+◌, ℕ, [], ◌∷◌, Some, None, Ok, map, length, filter_map, option_and_then, option_copied, option_to_list, IfOk, IfSome, OnOk, All};
 ghost use Rattle.tuple_schema.specs.Stops.{Gives, GivesView, IfFault};
 ghost use Rattle.tuple_schema.specs.Schemas.{IsSchema};
-ghost use Rattle.workflow_file.specs.Texts.{head_of};
+ghost use Rattle.workflow_file.specs.Texts.{head_of, rest_of};
 ghost use Rattle.workflow_file.specs.Kept.{KeepsRules, KeepsSource, KeepsNode};
 ghost use Rattle.workflow_file.specs.Plain.{int_column, IsInt};
 ghost use Rattle.expr_lang.specs.Texts.{expression_of};
@@ -37,11 +37,13 @@ pub fn type_tree(
     ensures nodes { GivesView (λ v. v.items) result (typed_tree raw.now (tree_below (links_in links.now) depth place)) }
     ensures chain { IfOk result (λ v. IsChain v.items) }
 {
-    let Some(input) = link_below(links, depth, place) else {
-        return type_last(alloc, raw, place, Vec::new(alloc));
-    };
-    let nodes = type_tree(alloc, raw, links, depth - 1, input)?;
-    type_last(alloc, raw, place, nodes)
+    match link_below(links, depth, place) {
+        None => type_last(alloc, raw, place, Vec::new(alloc)),
+        Some(input) => {
+            let nodes = type_tree(alloc, raw, links, depth - 1, input)?;
+            type_last(alloc, raw, place, nodes)
+        }
+    }
 }
 
 // The nodes, and the one at a place behind them.
@@ -184,7 +186,8 @@ fn source_cols(
     columns: &[Column],
     source: &RawSource,
 ) -> Result<(Option<Cols>, Option<Cols>), Stop<SchemaCause>>
-    ensures { Gives result (source_cols (names_in columns.now) source.now) }
+    ensures cols { Gives result (source_cols (names_in columns.now) source.now) }
+    ensures distinct { OnOk result (no_double (names_in columns.now) ≡ Ok tt) }
 {
     let names = names_in(alloc, columns)?;
     no_double(&names)?;
@@ -208,11 +211,13 @@ fn type_over(
     let Some(input) = input else {
         return Err(Stop::Fault(SchemaCause::NotReached));
     };
-    match node.kind.as_str() {
-        "select" => type_select(alloc, id, node, input),
-        "project" => type_project(alloc, id, node, input),
-        _ => Err(Stop::Fault(SchemaCause::NotReached)),
+    if node.kind.as_str() == "select" {
+        return type_select(alloc, id, node, input);
     }
+    if node.kind.as_str() == "project" {
+        return type_project(alloc, id, node, input);
+    }
+    Err(Stop::Fault(SchemaCause::NotReached))
 }
 
 fn type_select(
@@ -371,15 +376,26 @@ fn output(alloc: Global, column: &Column, text: &Text) -> Result<Column, Memory>
 }
 
 // The name that a column gets from `NAME` or `NAME as NAME`.
-#[tactic(auto, unfolding(workflow_file::specs::Texts::head_of, workflow_file::specs::Texts::rest_of))]
 fn new_name(alloc: Global, text: &Text) -> Result<Text, Memory>
     ensures { IfOk result (λ t. t ≡ new_name text.now) }
 {
-    let Some((_, rest)) = text.as_str().split_once(' ') else {
-        return text.copy();
+    let Some(rest) = rest_of(text.as_str()) else {
+        return head_of(alloc, text);
     };
-    match rest.split_once(' ') {
+    match rest_of(rest) {
         None => text_of(alloc, rest),
-        Some((_, name)) => text_of(alloc, name),
+        Some(name) => text_of(alloc, name),
+    }
+}
+
+// What follows the first space.
+#[tactic(auto, unfolding(workflow_file::specs::Texts::rest_of))]
+fn rest_of(text: &str) -> Option<&str>
+    ensures rest { option_copied result ≡ rest_of text.now }
+    ensures shorter { IfSome result (λ rest. length rest.now ≤ length text.now) }
+{
+    match text.split_once(' ') {
+        None => None,
+        Some((_, rest)) => Some(rest),
     }
 }

@@ -13,5 +13,5 @@ returns-then-below-nodes c =
 pub returns : goal.returns
 returns c =
     let past = rw c.items-sources.ensures at c.if-place-sources.false in
-    rw c.as_ref.ensures.value
+    rw (c.as_ref.ensures.value, ← c.index-nodes-below.is)
     (sym (needs_node c.args.raw.now c.args.place (c.args.place - length c.args.raw.now.sources) c.index-nodes-below.result (omega arith) (rw (c.items-nodes.ensures, c.items-sources.ensures) at c.if-below-nodes.false) (rw (c.items-nodes.ensures, c.items-sources.ensures) at c.index-nodes-below.is) c.requires.kept c.requires.built))

@@ -1,4 +1,4 @@
-use Rattle.std.proofs.Common.{◌≡◌, ◌<◌, sym, map, length, below_more, arith}
+use Rattle.std.proofs.Common.{◌≡◌, ◌<◌, sym, map, length, IfSome, below_more, arith}
 use Rattle.std.proofs.lemmas.List.{map-append}
 use Rattle.std.proofs.lemmas.List.Elements.{All-push}
 use Rattle.std.proofs.lemmas.Result.{err_from_is_err_and}
@@ -21,7 +21,7 @@ loop-place-preserved c =
     record {
       links = rw (c.in_ok-push.ensures.items, map-append, c.loop-place.invariant.links) (sym (links_more (names_of c.args.raw.now) (needs_of c.args.raw.now) c.loop-place.place c.in_ok-link_of.field-0 within (rw c.requires.names at c.in_ok-link_of.ensures.link)));
       there = below_more _ _ c.loop-place.invariant.there (rw c.requires.names at c.in_ok-link_of.ensures.there);
-      within = rw c.in_ok-push.ensures.items (All-push _ _ _ c.loop-place.invariant.within c.in_ok-link_of.ensures.within);
+      within = rw c.in_ok-push.ensures.items (All-push (λ link. IfSome link (λ input. input < length c.args.names.now)) c.loop-place.links.items c.in_ok-link_of.field-0 c.loop-place.invariant.within c.in_ok-link_of.ensures.within);
       len = omega (arith, c.in_ok-push.ensures.len);
     }
 
