@@ -13,8 +13,20 @@ pub fn is_built(raw: &RawFlow) -> bool
     ensures { result ≡ is_built raw.now }
 {
     raw.table.key.is_none()
-        && raw.sources.items().iter().all(|s| is_built_source(s))
-        && raw.nodes.items().iter().all(|n| is_built_node(n))
+        && are_built_sources(raw.sources.items())
+        && are_built_nodes(raw.nodes.items())
+}
+
+fn are_built_sources(sources: &[RawSource]) -> bool
+    ensures { result ≡ list_all is_built_source sources.now }
+{
+    sources.iter().all(|source| is_built_source(source))
+}
+
+fn are_built_nodes(nodes: &[RawNode]) -> bool
+    ensures { result ≡ list_all is_built_node nodes.now }
+{
+    nodes.iter().all(|node| is_built_node(node))
 }
 
 fn is_csv(format: &Option<Text>) -> bool
