@@ -65,3 +65,6 @@ pub fn type_flow(alloc: Global, raw: &RawFlow) -> Result<Flow, Stop<SchemaFault>
     let nodes = type_tree(alloc, raw, &graph.links, graph.links.len() - 1, graph.root)?;
     Ok(Flow { nodes })
 }
+
+#[cfg(test)]
+mod tests;

@@ -20,7 +20,7 @@ loop-text-preserved c =
     let there : Some place ≡ place_of (names_in columns) (head_of text) = rw (c.deref.ensures.value, c.in_ok-names.ensures) at c.in_ok-place.ensures.there in
     let counted : length c.in_ok-names.names.items ≡ length columns = simp length-map at (ap length c.in_ok-names.ensures) in
     let within : place < length columns = rw (c.deref.ensures.value, counted) at c.in_ok-place.ensures.within in
-    let gives : c.in_ok-output.field-0 ≡ renamed (new_name text) column = rw (← c.index-columns-place.is) at c.in_ok-output.ensures in
+    let gives : c.in_ok-output.field-0 ≡ renamed (new_name text) column = c.in_ok-output.ensures in
     let int : IsInt column = rw (← c.index-columns-place.is) at (c.requires place column within) in
     record {
       places = rw (c.in_ok-push-2.ensures.items, c.loop-text.invariant.places) (sym (found_more head_of (names_in columns) c.args.texts.now i place text c.loop-text-test.true c.text-item.is there));
