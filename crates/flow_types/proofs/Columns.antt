@@ -33,8 +33,8 @@ least_fails (suc n) test k h none =
     elim (cases_lt k n) [
       | inl below ↦ least_fails n test k below parts.0
       | inr above ↦
-        let last : k ≡ n = omega arith in
-        rw last (fails_here (test n) n parts.1)
+          let last : k ≡ n = omega arith in
+          rw last (fails_here (test n) n parts.1)
     ]
 
 differ_back : (a b : List ℕ) → bytes_eq a b ≡ false → bytes_eq b a ≡ false
@@ -49,10 +49,10 @@ pair_differs : (names : List (List ℕ)) (i j : ℕ) → i < j → j < length na
 pair_differs names i j less h fresh =
     elim (cases_Bool (bytes_eq (name_at names j) (name_at names i))) [
       | inl same ↦
-        let small : j ≤ length names = omega arith in
-        let within : i < length (take j names) = rw (length-take-le j names small) less in
-        let there : bytes_eq (name_at names j) (get_or (take j names) i []) ≡ true = rw (get_or-take j names i [] less) same in
-        absurd (both_ways (is_again names j) fresh (list_any_at (bytes_eq (name_at names j)) (take j names) i [] within there))
+          let small : j ≤ length names = omega arith in
+          let within : i < length (take j names) = rw (length-take-le j names small) less in
+          let there : bytes_eq (name_at names j) (get_or (take j names) i []) ≡ true = rw (get_or-take j names i [] less) same in
+          absurd (both_ways (is_again names j) fresh (list_any_at (bytes_eq (name_at names j)) (take j names) i [] within there))
       | inr other ↦ differ_back (name_at names j) (name_at names i) other
     ]
 

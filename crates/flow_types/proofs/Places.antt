@@ -20,8 +20,7 @@ least_is (suc n) test k h passes before =
     elim (cases_lt k n) [
       | inl below ↦ rw (least_is n test k below passes before) refl
       | inr above ↦
-        let last : k ≡ n = omega arith in
-        let here : test n ≡ true = rw last at passes in
-        rw (least_none n test (λ j less. before j (omega arith)), here) (ap Some (sym last))
+          let last : k ≡ n = omega arith in
+          let here : test n ≡ true = rw last at passes in
+          rw (least_none n test (λ j less. before j (omega arith)), here) (ap Some (sym last))
     ]
-

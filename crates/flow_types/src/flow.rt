@@ -1,10 +1,10 @@
 // Flows.
-ghost use Rattle.std.specs.Prelude.{◌≡◌, Some, IsTrue, option_copied, IfOk};
+ghost use Rattle.std.specs.Prelude.{◌≡◌, Some, slice_get, IsTrue, IfOk};
 ghost use Rattle.tuple_schema.specs.Stops.{Gives};
 ghost use Rattle.workflow_file.specs.Kept.{KeepsRules};
 ghost use Rattle.flow_types.specs.Built.{is_built};
 ghost use Rattle.flow_types.specs.Typed.{typed, last_of};
-ghost use Rattle.flow_types.specs.Chain.{IsChain};
+ghost use Rattle.flow_types.specs.Chain.{IsFirst, IsChain};
 
 use crate::fault::SchemaFault;
 use crate::graph::read_graph;
@@ -40,6 +40,14 @@ impl Flow {
         ensures chain { IsChain self.now }
     {
         &self.nodes
+    }
+
+    /// The node that reads the file.
+    pub fn source(&self) -> &Node
+        ensures first { Some result.now ≡ slice_get self.now 0 }
+        ensures source { IsFirst result.now.kind }
+    {
+        &self.nodes[0]
     }
 
     /// The node whose rows the table takes.

@@ -121,11 +121,7 @@ fn links_of(
 }
 
 // The place of the input of the node at a place.
-fn link_of(
-    raw: &RawFlow,
-    names: &[&Text],
-    place: usize,
-) -> Result<Option<usize>, Stop<SchemaFault>>
+fn link_of(raw: &RawFlow, names: &[&Text], place: usize) -> Result<Option<usize>, Stop<SchemaFault>>
     requires kept { KeepsRules raw.now }
     requires built { IsTrue (is_built raw.now) }
     requires place { place < 256 }
@@ -226,11 +222,7 @@ fn reach(
     Ok(())
 }
 
-fn all_reached(
-    alloc: Global,
-    root: usize,
-    links: &[Option<usize>],
-) -> Result<(), Stop<SchemaFault>>
+fn all_reached(alloc: Global, root: usize, links: &[Option<usize>]) -> Result<(), Stop<SchemaFault>>
     requires some { 1 ≤ length links.now }
     requires few { length links.now ≤ 80 }
     ensures { Gives result (all_reached root (links_in links.now)) }

@@ -115,11 +115,7 @@ fn id_of(place: usize) -> NodeId
     NodeId(place as u8)
 }
 
-fn type_source(
-    alloc: Global,
-    id: NodeId,
-    source: &RawSource,
-) -> Result<Node, Stop<SchemaCause>>
+fn type_source(alloc: Global, id: NodeId, source: &RawSource) -> Result<Node, Stop<SchemaCause>>
     requires { KeepsSource source.now }
     ensures node { Gives result (typed_source id source.now) }
     ensures first { IfOk result (IsNode None) }
@@ -244,11 +240,7 @@ fn type_select(
 }
 
 // Refuses a name that no column has.
-fn find_column(
-    alloc: Global,
-    columns: &[Column],
-    name: &Text,
-) -> Result<(), Stop<SchemaCause>>
+fn find_column(alloc: Global, columns: &[Column], name: &Text) -> Result<(), Stop<SchemaCause>>
     ensures { Gives result (no_unknown (names_in columns.now) (name.now ∷ [])) }
 {
     let names = names_in(alloc, columns)?;
@@ -297,11 +289,7 @@ fn type_project(
 }
 
 // The places of the columns that are taken, and the columns that come of them.
-fn projection(
-    alloc: Global,
-    columns: &[Column],
-    texts: &[Text],
-) -> Result<Taken, Stop<SchemaCause>>
+fn projection(alloc: Global, columns: &[Column], texts: &[Text]) -> Result<Taken, Stop<SchemaCause>>
     requires { All IsInt columns.now }
     ensures taken { GivesView (λ t. (t.places.items, t.columns.items)) result (projection columns.now texts.now) }
     ensures distinct { IfOk result (λ t. no_double (names_in t.columns.items) ≡ Ok tt) }
@@ -329,7 +317,11 @@ struct Taken {
 }
 
 // What the texts take of the columns, or the first that isn't there.
-fn take_columns(alloc: Global, columns: &[Column], texts: &[Text]) -> Result<Taken, Stop<SchemaCause>>
+fn take_columns(
+    alloc: Global,
+    columns: &[Column],
+    texts: &[Text],
+) -> Result<Taken, Stop<SchemaCause>>
     requires { All IsInt columns.now }
     ensures unknown { GivesView (λ _. tt) result (no_unknown (names_in columns.now) (map head_of texts.now)) }
     ensures places { IfOk result (λ t. t.places.items ≡ filter_map (place_of (names_in columns.now)) (map head_of texts.now)) }
