@@ -1,0 +1,10 @@
+pub mod Lists
+pub mod Places
+pub mod Uses
+pub mod Lookups
+pub mod Reached
+pub mod OneInput
+pub mod Links
+pub mod TypedTrees
+pub mod Chains
+pub mod Columns

@@ -1,0 +1,16 @@
+-- Lists that are mapped.
+use Rattle.std.proofs.Common.{◌≡◌, ℕ, ◌+◌, ◌<◌, List, [], ◌∷◌, ◌++◌, map, length, Bool, true, false, ◌||◌, cond, not, refl, ap, sym, ◌∙◌, nat_lt, Option, Some, None}
+use Rattle.std.specs.List.{list_any, position, position_or_len, prefix_len}
+use Rattle.std.proofs.lemmas.List.{length-map}
+use Rattle.std.proofs.lemmas.Bool.{cases_Bool}
+
+pub list_any_mapped : {X Y : Type 0} (p : Y → Bool) (f : X → Y) (xs : List X) → list_any p (map f xs) ≡ list_any (λ x. p (f x)) xs
+list_any_mapped p f [] = refl
+list_any_mapped p f (x ∷ xs) = ap (λ b. p (f x) || b) (list_any_mapped p f xs)
+
+pub prefix_len_mapped : {X Y : Type 0} (p : Y → Bool) (f : X → Y) (xs : List X) → prefix_len p (map f xs) ≡ prefix_len (λ x. p (f x)) xs
+prefix_len_mapped p f [] = refl
+prefix_len_mapped p f (x ∷ xs) = rw (prefix_len_mapped p f xs) refl
+
+pub position_mapped : {X Y : Type 0} (p : Y → Bool) (f : X → Y) (xs : List X) → position p (map f xs) ≡ position (λ x. p (f x)) xs
+position_mapped p f xs = rw (prefix_len_mapped (λ y. not (p y)) f xs, length-map) refl

@@ -1,0 +1,18 @@
+use Rattle.std.proofs.Common.{◌≡◌}
+use Rattle.flow_types.specs.Names.{names_in}
+use Rattle.flow_types.proofs.Columns.{text_schema, text_ints}
+use Rattle.flow_types.proofs.typing.type_source.Goals as goal
+
+pub of-requires : goal.of-requires
+of-requires c =
+    let fine = rw (c.deref.ensures.value, c.in_ok-columns.ensures, c.items.ensures) at c.in_ok-key.ensures.distinct in
+    rw (c.in_ok-columns.ensures, c.items.ensures) (text_schema c.args.source.now.columns c.requires.columns.some c.requires.columns.few fine)
+
+pub returns-clause-first : goal.returns-clause-first
+returns-clause-first c =
+    let fine = rw (c.deref.ensures.value, c.in_ok-columns.ensures, c.items.ensures) at c.in_ok-key.ensures.distinct in
+    record {
+      follows = (tt, c.none.ensures);
+      schema = rw (c.of.ensures, c.in_ok-columns.ensures, c.items.ensures) (text_schema c.args.source.now.columns c.requires.columns.some c.requires.columns.few fine);
+      ints = rw (c.of.ensures, c.in_ok-columns.ensures, c.items.ensures) (text_ints c.args.source.now.columns);
+    }

@@ -1,0 +1,36 @@
+-- Which flows are built at this stage.
+use Rattle.std.specs.Prelude.{ℕ, List, codes, bytes_eq, Bool, true, false, ◌&&◌, ◌||◌, is_some, is_none, Option, Some, None, option_and_then}
+use Rattle.std.specs.List.{list_all}
+use Rattle.workflow_file.specs.declared.raw.RawSource.{RawSource}
+use Rattle.workflow_file.specs.declared.raw.RawNode.{RawNode}
+use Rattle.workflow_file.specs.declared.raw.RawFlow.{RawFlow}
+use Rattle.workflow_file.specs.Plain.{is_int_column}
+use Rattle.expr_lang.specs.Texts.{expression_of}
+
+-- the format is CSV, by name or by default
+abbrev pub is_csv : Option (List ℕ) → Bool
+is_csv None = true
+is_csv (Some word) = bytes_eq word (codes "csv")
+
+-- a sequence of whole numbers in a CSV file, whose header names them
+abbrev pub is_built_source : RawSource → Bool
+is_built_source s =
+    (is_csv s.format && is_none s.header)
+    && (bytes_eq s.promise (codes "seq") && list_all is_int_column s.columns)
+
+-- a selection whose expression is built
+abbrev pub is_built_select : RawNode → Bool
+is_built_select n = bytes_eq n.kind (codes "select") && is_some (option_and_then expression_of n.test)
+
+-- a projection
+abbrev pub is_project : RawNode → Bool
+is_project n = bytes_eq n.kind (codes "project")
+
+-- a selection or a projection that declares nothing
+abbrev pub is_built_node : RawNode → Bool
+is_built_node n = is_none n.declare && (is_built_select n || is_project n)
+
+-- a table without a key, over such sources and nodes
+abbrev pub is_built : RawFlow → Bool
+is_built flow =
+    is_none flow.table.key && (list_all is_built_source flow.sources && list_all is_built_node flow.nodes)

@@ -1,0 +1,6 @@
+pub mod Names
+pub mod Trees
+pub mod Graph
+pub mod Built
+pub mod Typed
+pub mod Chain

@@ -1,0 +1,83 @@
+// Which flows are built at this stage.
+ghost use Rattle.std.specs.Prelude.{◌≡◌};
+ghost use Rattle.std.specs.List.{list_all};
+ghost use Rattle.workflow_file.specs.Plain.{is_int_column};
+ghost use Rattle.flow_types.specs.Built.{is_csv, is_built_source, is_built_select, is_project, is_built_node, is_built};
+
+use tuple_schema::Text;
+use workflow_file::{RawFlow, RawNode, RawSource};
+
+/// Whether the flow is one that can be typed at this stage: a table without a key, sources of whole
+/// numbers in CSV files, and selections and projections that declare nothing.
+pub fn is_built(raw: &RawFlow) -> bool
+    ensures { result ≡ is_built raw.now }
+{
+    raw.table.key.is_none()
+        && are_built_sources(raw.sources.items())
+        && are_built_nodes(raw.nodes.items())
+}
+
+fn are_built_sources(sources: &[RawSource]) -> bool
+    ensures { result ≡ list_all is_built_source sources.now }
+{
+    sources.iter().all(|source| is_built_source(source))
+}
+
+fn are_built_nodes(nodes: &[RawNode]) -> bool
+    ensures { result ≡ list_all is_built_node nodes.now }
+{
+    nodes.iter().all(|node| is_built_node(node))
+}
+
+fn is_csv(format: &Option<Text>) -> bool
+    ensures { result ≡ is_csv format.now }
+{
+    match format {
+        None => true,
+        Some(word) => word.as_str() == "csv",
+    }
+}
+
+fn is_built_source(source: &RawSource) -> bool
+    ensures { result ≡ is_built_source source.now }
+{
+    is_csv(&source.format)
+        && source.header.is_none()
+        && source.promise.as_str() == "seq"
+        && are_int_columns(source.columns.items())
+}
+
+fn are_int_columns(texts: &[Text]) -> bool
+    ensures { result ≡ list_all is_int_column texts.now }
+{
+    texts.iter().all(|text| is_int_column(text))
+}
+
+// Whether the text is `NAME int`.
+#[tactic(auto, unfolding(workflow_file::specs::Texts::rest_of))]
+fn is_int_column(text: &Text) -> bool
+    ensures { result ≡ is_int_column text.now }
+{
+    match text.as_str().split_once(' ') {
+        None => false,
+        Some((_, word)) => word == "int",
+    }
+}
+
+fn is_built_select(node: &RawNode) -> bool
+    ensures { result ≡ is_built_select node.now }
+{
+    if node.kind.as_str() != "select" {
+        return false;
+    }
+    match &node.test {
+        None => false,
+        Some(test) => expr_lang::is_built(test.as_str()),
+    }
+}
+
+fn is_built_node(node: &RawNode) -> bool
+    ensures { result ≡ is_built_node node.now }
+{
+    node.declare.is_none() && (is_built_select(node) || node.kind.as_str() == "project")
+}

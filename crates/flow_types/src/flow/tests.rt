@@ -1,0 +1,558 @@
+// Flows, each with its answer: the nodes from the source on and the root's columns, or the first fault.
+use super::*;
+use crate::{SchemaCause, is_built};
+use std::test::Fail;
+use workflow_file::read_flow;
+
+// The table's input; sources, each a name and what stands in its list of columns; nodes, each a name, an
+// input, and the items of a projection or an expression; and the answer.
+type Row = (
+    &'static str,
+    &'static [(&'static str, &'static str)],
+    &'static [(&'static str, &'static str, &'static str)],
+    &'static str,
+);
+
+// The text of a flow file.
+fn flow_text(alloc: Global, row: &Row) -> Result<String, Fail> {
+    let mut text = format!(in alloc; "table={{input='{}'}}\nsource=[", row.0)?;
+    for (name, columns) in row.1 {
+        let source = format!(in alloc;
+            "{{name='{name}',file='{name}.csv',columns=[{columns}],promise='seq'}},"
+        )?;
+        text.push_str(source.as_str())?;
+    }
+    text.push_str("]\nnode=[")?;
+    for (name, input, what) in row.2 {
+        let rest = if what.starts_with('\'') {
+            format!(in alloc; "kind='project',columns=[{what}]")?
+        } else {
+            format!(in alloc; "kind='select',where='{what}'")?
+        };
+        let node = format!(in alloc; "{{name='{name}',input='{input}',{}}},", rest.as_str())?;
+        text.push_str(node.as_str())?;
+    }
+    text.push_str("]\n")?;
+    Ok(text)
+}
+
+// The answer, as a line.
+fn answer(alloc: Global, text: &[u8]) -> Result<String, Fail> {
+    if text.len() > 65536 {
+        return Err(Fail::new("longer than a flow file"));
+    }
+    let raw = read_flow(alloc, text)?;
+    if !is_built(&raw) {
+        return Ok(String::from_str(alloc, "not built")?);
+    }
+    match type_flow(alloc, &raw) {
+        Ok(flow) => flow_line(alloc, &flow),
+        Err(Stop::Memory) => Err(Fail::new("no memory")),
+        Err(Stop::Fault(fault)) => fault_line(alloc, &fault),
+    }
+}
+
+fn flow_line(alloc: Global, flow: &Flow) -> Result<String, Fail> {
+    let mut line = String::from_str(alloc, "ok")?;
+    for node in flow.nodes() {
+        line.push_str(" ")?;
+        line.push_str(node.name.as_str())?;
+    }
+    line.push_str(":")?;
+    for column in flow.root().schema.columns() {
+        line.push_str(" ")?;
+        line.push_str(column.name.as_str())?;
+    }
+    Ok(line)
+}
+
+fn fault_line(alloc: Global, fault: &SchemaFault) -> Result<String, Fail> {
+    let place = match fault.node {
+        None => String::from_str(alloc, "table")?,
+        Some(node) => format!(in alloc; "{}", node.0)?,
+    };
+    let what = match &fault.cause {
+        SchemaCause::NameTwice => String::from_str(alloc, "name twice")?,
+        SchemaCause::NoInput { name } => format!(in alloc; "no {}", name.as_str())?,
+        SchemaCause::UsedTwice => String::from_str(alloc, "used twice")?,
+        SchemaCause::NotReached => String::from_str(alloc, "not reached")?,
+        SchemaCause::UnknownColumn { column } => format!(in alloc; "unknown {}", column.as_str())?,
+        SchemaCause::DoubleColumn { column } => format!(in alloc; "double {}", column.as_str())?,
+    };
+    Ok(format!(in alloc; "{}: {}", place.as_str(), what.as_str())?)
+}
+
+const TYPED: [Row; 11] = [
+    ("a", &[("a", "'n int','m int'")], &[], "ok a: n m"),
+    (
+        "s",
+        &[("a", "'n int','m int'")],
+        &[("s", "a", "n > 1")],
+        "ok a s: n m",
+    ),
+    (
+        "p",
+        &[("a", "'n int','m int'")],
+        &[("p", "a", "'m','n as k'")],
+        "ok a p: m k",
+    ),
+    (
+        "p",
+        &[("a", "'n int','m int'")],
+        &[("p", "s", "'m'"), ("s", "a", "m = 3")],
+        "ok a s p: m",
+    ),
+    (
+        "s",
+        &[("a", "'n int','m int'")],
+        &[("p", "a", "'n as k'"), ("s", "p", "k < 5")],
+        "ok a p s: k",
+    ),
+    (
+        "p",
+        &[("a", "'n int','m int'")],
+        &[("p", "a", "'n','n as k'")],
+        "ok a p: n k",
+    ),
+    (
+        "p",
+        &[("a", "'n int','m int'")],
+        &[("p", "a", "'n as m','m as n'")],
+        "ok a p: m n",
+    ),
+    (
+        "q",
+        &[("a", "'n int','m int'")],
+        &[("p", "a", "'n as m','m as n'"), ("q", "p", "'n as k'")],
+        "ok a p q: k",
+    ),
+    (
+        "a",
+        &[("a", "'n int','m int'],key=['m','n'")],
+        &[],
+        "ok a: n m",
+    ),
+    (
+        "a",
+        &[("a", "'n int','m int'],grouped=['m'")],
+        &[],
+        "ok a: n m",
+    ),
+    (
+        "a",
+        &[("a", "'n int','m int'],key=['n'],grouped=['m','n'")],
+        &[],
+        "ok a: n m",
+    ),
+];
+
+#[test]
+fn flows_are_typed_from_the_source_on(rt: HostRuntime) -> Result<(), Fail> {
+    for row in &TYPED {
+        let text = flow_text(rt.alloc(), row)?;
+        let got = answer(rt.alloc(), text.as_bytes())?;
+        assert_eq!(rt; got.as_str(), row.3, "for {}", text.as_str());
+    }
+    Ok(())
+}
+
+const NAMES: [Row; 27] = [
+    (
+        "a",
+        &[("a", "'n int','m int'"), ("a", "'n int','m int'")],
+        &[],
+        "1: name twice",
+    ),
+    (
+        "a",
+        &[("a", "'n int','m int'")],
+        &[("a", "a", "n > 1")],
+        "1: name twice",
+    ),
+    (
+        "s",
+        &[("a", "'n int','m int'")],
+        &[("s", "a", "n > 1"), ("s", "a", "n > 1")],
+        "2: name twice",
+    ),
+    (
+        "s",
+        &[("a", "'n int','m int'"), ("b", "'x int'")],
+        &[("b", "a", "n > 1"), ("a", "b", "n > 1")],
+        "2: name twice",
+    ),
+    (
+        "s",
+        &[("a", "'n int','m int'")],
+        &[
+            ("s", "a", "n > 1"),
+            ("t", "s", "n > 1"),
+            ("t", "t", "n > 1"),
+            ("s", "t", "n > 1"),
+        ],
+        "3: name twice",
+    ),
+    ("x", &[("a", "'n int','m int'")], &[], "table: no x"),
+    (
+        "s",
+        &[("a", "'n int','m int'")],
+        &[("s", "x", "n > 1")],
+        "1: no x",
+    ),
+    (
+        "t",
+        &[("a", "'n int','m int'")],
+        &[("s", "x", "n > 1"), ("t", "y", "n > 1")],
+        "1: no x",
+    ),
+    (
+        "z",
+        &[("a", "'n int','m int'")],
+        &[("s", "x", "n > 1")],
+        "1: no x",
+    ),
+    (
+        "t",
+        &[("a", "'n int','m int'")],
+        &[("s", "a", "n > 1"), ("t", "y", "n > 1")],
+        "2: no y",
+    ),
+    (
+        "z",
+        &[("a", "'n int','m int'")],
+        &[("s", "a", "n > 1")],
+        "table: no z",
+    ),
+    (
+        "a",
+        &[("a", "'n int','m int'")],
+        &[("s", "a", "n > 1")],
+        "0: used twice",
+    ),
+    (
+        "s",
+        &[("a", "'n int','m int'")],
+        &[("s", "a", "n > 1"), ("t", "a", "n > 1")],
+        "0: used twice",
+    ),
+    (
+        "s",
+        &[("a", "'n int','m int'")],
+        &[("s", "s", "n > 1")],
+        "1: used twice",
+    ),
+    (
+        "s",
+        &[("a", "'n int','m int'")],
+        &[("s", "t", "n > 1"), ("t", "s", "n > 1")],
+        "1: used twice",
+    ),
+    (
+        "r",
+        &[("a", "'n int','m int'")],
+        &[
+            ("r", "s", "n > 1"),
+            ("s", "t", "n > 1"),
+            ("t", "s", "n > 1"),
+        ],
+        "2: used twice",
+    ),
+    (
+        "t",
+        &[("a", "'n int','m int'")],
+        &[
+            ("s", "t", "n > 1"),
+            ("t", "u", "n > 1"),
+            ("u", "s", "n > 1"),
+        ],
+        "2: used twice",
+    ),
+    (
+        "s",
+        &[("a", "'n int','m int'"), ("b", "'x int'")],
+        &[
+            ("s", "a", "n > 1"),
+            ("t", "a", "n > 1"),
+            ("u", "b", "x > 1"),
+            ("v", "b", "x > 1"),
+        ],
+        "0: used twice",
+    ),
+    (
+        "s",
+        &[("a", "'n int','m int'")],
+        &[
+            ("s", "a", "n > 1"),
+            ("t", "a", "n > 1"),
+            ("u", "a", "n > 1"),
+        ],
+        "0: used twice",
+    ),
+    (
+        "t",
+        &[("a", "'n int','m int'")],
+        &[
+            ("s", "a", "n > 1"),
+            ("t", "s", "n > 1"),
+            ("u", "s", "n > 1"),
+        ],
+        "1: used twice",
+    ),
+    (
+        "a",
+        &[("a", "'n int','m int'"), ("b", "'x int'")],
+        &[],
+        "1: not reached",
+    ),
+    (
+        "b",
+        &[("a", "'n int','m int'"), ("b", "'x int'")],
+        &[],
+        "0: not reached",
+    ),
+    (
+        "a",
+        &[("a", "'n int','m int'")],
+        &[("s", "s", "n > 1")],
+        "1: not reached",
+    ),
+    (
+        "a",
+        &[("a", "'n int','m int'")],
+        &[("s", "t", "n > 1"), ("t", "s", "n > 1")],
+        "1: not reached",
+    ),
+    (
+        "s",
+        &[("a", "'n int','m int'")],
+        &[
+            ("s", "a", "n > 1"),
+            ("t", "u", "n > 1"),
+            ("u", "t", "n > 1"),
+        ],
+        "2: not reached",
+    ),
+    (
+        "a",
+        &[("a", "'n int','m int'"), ("b", "'x int'")],
+        &[("s", "b", "x > 1")],
+        "1: not reached",
+    ),
+    (
+        "s",
+        &[("a", "'n int','m int'"), ("b", "'x int'")],
+        &[("s", "b", "x > 1")],
+        "0: not reached",
+    ),
+];
+
+#[test]
+fn names_have_to_fit_together(rt: HostRuntime) -> Result<(), Fail> {
+    for row in &NAMES {
+        let text = flow_text(rt.alloc(), row)?;
+        let got = answer(rt.alloc(), text.as_bytes())?;
+        assert_eq!(rt; got.as_str(), row.3, "for {}", text.as_str());
+    }
+    Ok(())
+}
+
+const COLUMNS: [Row; 15] = [
+    (
+        "s",
+        &[("a", "'n int','m int'")],
+        &[("s", "a", "k > 1")],
+        "1: unknown k",
+    ),
+    (
+        "p",
+        &[("a", "'n int','m int'")],
+        &[("p", "a", "'k'")],
+        "1: unknown k",
+    ),
+    (
+        "p",
+        &[("a", "'n int','m int'")],
+        &[("p", "a", "'n','k','j'")],
+        "1: unknown k",
+    ),
+    (
+        "p",
+        &[("a", "'n int','m int'")],
+        &[("p", "a", "'k as n'")],
+        "1: unknown k",
+    ),
+    (
+        "p",
+        &[("a", "'n int','m int'")],
+        &[("p", "a", "'n','n'")],
+        "1: double n",
+    ),
+    (
+        "p",
+        &[("a", "'n int','m int'")],
+        &[("p", "a", "'n','m as n'")],
+        "1: double n",
+    ),
+    (
+        "p",
+        &[("a", "'n int','m int'")],
+        &[("p", "a", "'n','m','n as m'")],
+        "1: double m",
+    ),
+    (
+        "p",
+        &[("a", "'n int','m int'")],
+        &[("p", "a", "'n','m','m as m','n as n'")],
+        "1: double m",
+    ),
+    ("a", &[("a", "'n int','n int'")], &[], "0: double n"),
+    ("a", &[("a", "'n int'],key=['k'")], &[], "0: unknown k"),
+    ("a", &[("a", "'n int'],key=['n','n'")], &[], "0: double n"),
+    ("a", &[("a", "'n int'],grouped=['k'")], &[], "0: unknown k"),
+    (
+        "a",
+        &[("a", "'n int'],grouped=['n','n'")],
+        &[],
+        "0: double n",
+    ),
+    (
+        "s",
+        &[("a", "'n int','m int'")],
+        &[("p", "a", "'m'"), ("s", "p", "n > 1")],
+        "2: unknown n",
+    ),
+    (
+        "s",
+        &[("a", "'n int','m int'")],
+        &[("p", "a", "'n as k'"), ("s", "p", "n = 1")],
+        "2: unknown n",
+    ),
+];
+
+#[test]
+fn columns_have_to_be_there_once(rt: HostRuntime) -> Result<(), Fail> {
+    for row in &COLUMNS {
+        let text = flow_text(rt.alloc(), row)?;
+        let got = answer(rt.alloc(), text.as_bytes())?;
+        assert_eq!(rt; got.as_str(), row.3, "for {}", text.as_str());
+    }
+    Ok(())
+}
+
+const ORDERS: [Row; 17] = [
+    (
+        "s",
+        &[("a", "'n int','m int'")],
+        &[("s", "x", "n > 1"), ("s", "a", "n > 1")],
+        "2: name twice",
+    ),
+    (
+        "x",
+        &[("a", "'n int','m int'"), ("a", "'n int','m int'")],
+        &[],
+        "1: name twice",
+    ),
+    (
+        "a",
+        &[("a", "'n int','m int'")],
+        &[("s", "a", "n > 1"), ("s", "a", "n > 1")],
+        "2: name twice",
+    ),
+    (
+        "a",
+        &[
+            ("a", "'n int','m int'"),
+            ("a", "'n int','m int'"),
+            ("b", "'x int'"),
+        ],
+        &[],
+        "1: name twice",
+    ),
+    (
+        "s",
+        &[("a", "'n int','m int'")],
+        &[
+            ("s", "a", "n > 1"),
+            ("t", "a", "n > 1"),
+            ("u", "x", "n > 1"),
+        ],
+        "3: no x",
+    ),
+    (
+        "x",
+        &[("a", "'n int','m int'")],
+        &[("s", "a", "n > 1"), ("t", "a", "n > 1")],
+        "table: no x",
+    ),
+    (
+        "x",
+        &[("a", "'n int','m int'"), ("b", "'x int'")],
+        &[],
+        "table: no x",
+    ),
+    ("x", &[("a", "'n int','n int'")], &[], "table: no x"),
+    (
+        "s",
+        &[("a", "'n int','m int'"), ("b", "'x int'")],
+        &[("s", "b", "x > 1"), ("t", "b", "x > 1")],
+        "1: used twice",
+    ),
+    (
+        "a",
+        &[("a", "'n int','n int'")],
+        &[("s", "a", "n > 1")],
+        "0: used twice",
+    ),
+    (
+        "a",
+        &[("a", "'n int','n int'"), ("b", "'x int'")],
+        &[],
+        "1: not reached",
+    ),
+    (
+        "p",
+        &[("a", "'n int','m int'")],
+        &[("p", "a", "'n','n','k'")],
+        "1: unknown k",
+    ),
+    (
+        "s",
+        &[("a", "'n int'],key=['k'")],
+        &[("s", "a", "j > 1")],
+        "0: unknown k",
+    ),
+    (
+        "p",
+        &[("a", "'n int','m int'")],
+        &[("p", "s", "'j'"), ("s", "a", "k > 1")],
+        "2: unknown k",
+    ),
+    (
+        "a",
+        &[("a", "'n int','n int'],key=['k'")],
+        &[],
+        "0: double n",
+    ),
+    (
+        "a",
+        &[("a", "'n int'],key=['n','n'],grouped=['k'")],
+        &[],
+        "0: double n",
+    ),
+    (
+        "a",
+        &[("a", "'n int'],key=['n','n','k'")],
+        &[],
+        "0: unknown k",
+    ),
+];
+
+#[test]
+fn the_first_of_two_faults_is_told(rt: HostRuntime) -> Result<(), Fail> {
+    for row in &ORDERS {
+        let text = flow_text(rt.alloc(), row)?;
+        let got = answer(rt.alloc(), text.as_bytes())?;
+        assert_eq!(rt; got.as_str(), row.3, "for {}", text.as_str());
+    }
+    Ok(())
+}

@@ -1,0 +1,23 @@
+//! Typed flows: names looked up, the columns of each node found, or the first fault in them.
+//!
+//! Stands on `workflow_file`, whose raw flows it types, and on `expr_lang`; `kind_laws` gives the nodes
+//! their meaning. Read `specs/Graph.antt` first, how nodes are named and reached, then
+//! `specs/Typed.antt`, their columns and the order of faults, and `specs/Chain.antt`, what each flow is.
+//!
+//! Built at this stage are sequences of whole numbers, selections and projections: `is_built`.
+//! Promised: `type_flow` answers the typed flow or its first fault; every `Flow` is a chain from a source.
+//! Not promised: that memory is found.
+#![tactic(auto)]
+
+mod built;
+mod fault;
+mod flow;
+mod graph;
+mod names;
+mod node;
+mod typing;
+
+pub use built::is_built;
+pub use fault::{NodeId, SchemaCause, SchemaFault};
+pub use flow::{Flow, type_flow};
+pub use node::{Cols, Inputs, Kind, Node, Source};

@@ -1,0 +1,107 @@
+// The nodes of a flow.
+ghost use Rattle.std.specs.Prelude.{◌≡◌, [], ◌∷◌, IfOk};
+
+use crate::fault::NodeId;
+use expr_lang::Expr;
+use std::alloc::Global;
+use std::marker::Model;
+use tuple_schema::{Memory, Schema, Text};
+
+/// A list of places of columns. A contract sees it as that list.
+#[derive(Debug, Drop)]
+pub struct Cols {
+    places: Vec<usize>,
+}
+
+impl Model for Cols {
+    ghost use Rattle.std.specs.Prelude.{List, ℕ};
+
+    ghost Value = { List ℕ };
+
+    ghost view = { λ c. c.places.items };
+}
+
+impl Cols {
+    pub fn of(places: Vec<usize>) -> Cols
+        ensures { result ≡ places.items }
+    {
+        Cols { places }
+    }
+
+    pub fn places(&self) -> &[usize]
+        ensures { result.now ≡ self.now }
+    {
+        &self.places
+    }
+}
+
+/// The inputs of a node, in order. A contract sees them as their list.
+#[derive(Debug, Drop)]
+pub struct Inputs {
+    nodes: Vec<NodeId>,
+}
+
+impl Model for Inputs {
+    ghost use Rattle.std.specs.Prelude.{List};
+    ghost use Rattle.flow_types.specs.declared.fault.NodeId.{NodeId};
+
+    ghost Value = { List NodeId };
+
+    ghost view = { λ i. i.nodes.items };
+}
+
+impl Inputs {
+    /// No input.
+    pub fn none(alloc: Global) -> Inputs
+        ensures { result ≡ [] }
+    {
+        Inputs {
+            nodes: Vec::new(alloc),
+        }
+    }
+
+    /// A single input.
+    pub fn one(alloc: Global, node: NodeId) -> Result<Inputs, Memory>
+        ensures { IfOk result (λ i. i ≡ node ∷ []) }
+    {
+        let mut nodes = Vec::new(alloc);
+        nodes.push(node)?;
+        Ok(Inputs { nodes })
+    }
+
+    pub fn nodes(&self) -> &[NodeId]
+        ensures { result.now ≡ self.now }
+    {
+        &self.nodes
+    }
+}
+
+/// A CSV file of whole numbers. Columns that may be absent are None exactly where they are.
+#[derive(Debug, Drop)]
+pub struct Source {
+    pub file: Text,
+    pub key: Option<Cols>,
+    /// The columns of which equal values stand together.
+    pub grouped: Option<Cols>,
+}
+
+/// What a node does.
+#[derive(Debug, Drop)]
+pub enum Kind {
+    /// Reads a file.
+    Source(Source),
+    /// Keeps the rows of which the test is true.
+    Select { test: Expr },
+    /// Takes these columns of its input, in this order.
+    Project { from: Cols },
+}
+
+/// A node of a flow, with the columns of what it gives.
+#[derive(Debug, Drop)]
+pub struct Node {
+    pub id: NodeId,
+    pub name: Text,
+    pub kind: Kind,
+    pub inputs: Inputs,
+    pub schema: Schema,
+}
