@@ -2,7 +2,7 @@
 use Rattle.std.proofs.Common.{◌≡◌, ℕ, zero, suc, ◌+◌, ◌-◌, ◌<◌, ◌≤◌, List, [], ◌∷◌, ◌++◌, map, take, get_or, length, slice_get, Bool, true, false, not, ◌&&◌, IsTrue, All, IfSome, refl, ap, sym, ◌∙◌, Option, Some, None, option_map, arith}
 use Rattle.std.proofs.lemmas.List.{length-append}
 use Rattle.flow_types.specs.declared.node.Node.{Node}
-use Rattle.workflow_file.specs.Plain.{IsInt}
+use Rattle.flow_types.specs.Columns.{IsInt}
 use Rattle.flow_types.specs.Typed.{last_of}
 use Rattle.flow_types.specs.Chain.{IsNode, IsChainFrom, IsChain}
 

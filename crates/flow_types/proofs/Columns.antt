@@ -11,7 +11,7 @@ use Rattle.std.proofs.lemmas.Slice.Eq.{bytes_eq-Decides}
 use Rattle.tuple_schema.specs.declared.schema.Column.{Column}
 use Rattle.tuple_schema.specs.Schemas.{IsSchema, HasScale, are_distinct}
 use Rattle.workflow_file.specs.Texts.{head_of}
-use Rattle.workflow_file.specs.Plain.{int_column, IsInt}
+use Rattle.flow_types.specs.Columns.{int_column, IsInt}
 use Rattle.expr_lang.specs.Truths.{place_of}
 use Rattle.flow_types.specs.declared.fault.SchemaCause.TheVariants as cause
 use Rattle.flow_types.specs.Names.{least, name_at, is_again, again, no_double, names_in}

@@ -4,7 +4,7 @@ use Rattle.std.specs.List.{list_all}
 use Rattle.workflow_file.specs.declared.raw.RawSource.{RawSource}
 use Rattle.workflow_file.specs.declared.raw.RawNode.{RawNode}
 use Rattle.workflow_file.specs.declared.raw.RawFlow.{RawFlow}
-use Rattle.workflow_file.specs.Plain.{is_int_column}
+use Rattle.flow_types.specs.Columns.{is_int_column}
 use Rattle.expr_lang.specs.Texts.{expression_of}
 
 -- the format is CSV, by name or by default

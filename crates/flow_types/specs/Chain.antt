@@ -2,7 +2,7 @@
 use Rattle.std.specs.Prelude.{◌≡◌, ◌≤◌, ◌<◌, ℕ, List, [], ◌∷◌, length, map, All, IsTrue, IsSome, ⊤, Option, Some, None}
 use Rattle.tuple_schema.specs.declared.schema.Column.{Column}
 use Rattle.tuple_schema.specs.Schemas.{IsSchema, are_distinct}
-use Rattle.workflow_file.specs.Plain.{IsInt}
+use Rattle.flow_types.specs.Columns.{IsInt}
 use Rattle.expr_lang.specs.Truths.{place_of}
 use Rattle.flow_types.specs.declared.node.Kind.{Kind}
 use Rattle.flow_types.specs.declared.node.Kind.TheVariants as kind

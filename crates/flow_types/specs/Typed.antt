@@ -6,7 +6,7 @@ use Rattle.workflow_file.specs.declared.raw.RawSource.{RawSource}
 use Rattle.workflow_file.specs.declared.raw.RawNode.{RawNode}
 use Rattle.workflow_file.specs.declared.raw.RawFlow.{RawFlow}
 use Rattle.workflow_file.specs.Texts.{head_of, rest_of}
-use Rattle.workflow_file.specs.Plain.{int_column}
+use Rattle.flow_types.specs.Columns.{int_column}
 use Rattle.expr_lang.specs.declared.expr.Expr.{Expr}
 use Rattle.expr_lang.specs.Texts.{expression_of}
 use Rattle.expr_lang.specs.Truths.{place_of}

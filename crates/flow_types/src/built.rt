@@ -1,7 +1,7 @@
 // Which flows are built at this stage.
 ghost use Rattle.std.specs.Prelude.{◌≡◌};
 ghost use Rattle.std.specs.List.{list_all};
-ghost use Rattle.workflow_file.specs.Plain.{is_int_column};
+ghost use Rattle.flow_types.specs.Columns.{is_int_column};
 ghost use Rattle.flow_types.specs.Built.{is_csv, is_built_source, is_built_select, is_project, is_built_node, is_built};
 
 use tuple_schema::Text;

@@ -4,7 +4,7 @@ ghost use Rattle.tuple_schema.specs.Stops.{Gives, GivesView, IfFault};
 ghost use Rattle.tuple_schema.specs.Schemas.{IsSchema};
 ghost use Rattle.workflow_file.specs.Texts.{head_of, rest_of};
 ghost use Rattle.workflow_file.specs.Kept.{KeepsRules, KeepsSource, KeepsNode};
-ghost use Rattle.workflow_file.specs.Plain.{int_column, IsInt};
+ghost use Rattle.flow_types.specs.Columns.{int_column, IsInt};
 ghost use Rattle.expr_lang.specs.Texts.{expression_of};
 ghost use Rattle.expr_lang.specs.Truths.{place_of};
 ghost use Rattle.flow_types.specs.Names.{names_in, unknown, no_double, no_unknown};

@@ -2,7 +2,7 @@
 use Rattle.std.proofs.Common.{◌≡◌, ℕ, zero, suc, List, [], ◌∷◌, slice_get, Option, Some, None, All}
 use Rattle.std.proofs.lemmas.Option.{same_Some}
 use Rattle.flow_types.specs.declared.node.Node.{Node}
-use Rattle.flow_types.specs.Names.{IsInt}
+use Rattle.flow_types.specs.Columns.{IsInt}
 use Rattle.flow_types.specs.Chain.{IsNode, IsChainFrom}
 use Rattle.kind_laws.specs.Laws.{AreLinked}
 

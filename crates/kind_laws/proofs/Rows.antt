@@ -8,7 +8,7 @@ use Rattle.tuple_schema.specs.declared.schema.ColumnKind.{ColumnKind}
 use Rattle.tuple_schema.specs.declared.schema.ColumnKind.TheVariants as kind
 use Rattle.tuple_schema.specs.Schemas.{Fits, fits, is_of}
 use Rattle.tuple_schema.specs.Tuples.{part}
-use Rattle.flow_types.specs.Names.{IsInt}
+use Rattle.flow_types.specs.Columns.{IsInt}
 use Rattle.flow_types.specs.Chain.{IsProjection, IsOver}
 use Rattle.expr_lang.specs.Truths.{truth_of}
 use Rattle.flow_types.specs.declared.node.Kind.{Kind}

@@ -3,7 +3,7 @@ use Rattle.std.specs.Prelude.{◌≡◌, List, length, All}
 use Rattle.tuple_schema.specs.declared.value.Value.{Value}
 use Rattle.tuple_schema.specs.Schemas.{Fits, IsSchema}
 use Rattle.flow_types.specs.declared.node.Node.{Node}
-use Rattle.flow_types.specs.Names.{IsInt}
+use Rattle.flow_types.specs.Columns.{IsInt}
 use Rattle.flow_types.specs.Chain.{IsOver}
 use Rattle.kind_laws.specs.Outputs.{only}
 

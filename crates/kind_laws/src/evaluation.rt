@@ -1,7 +1,7 @@
 // The meaning of a flow.
 ghost use Rattle.std.specs.Prelude.{◌≡◌, [], ◌∷◌, All, IfOk, IfSome, slice_get};
 ghost use Rattle.tuple_schema.specs.Schemas.{Fits};
-ghost use Rattle.flow_types.specs.Last.{last_of};
+ghost use Rattle.flow_types.specs.Typed.{last_of};
 ghost use Rattle.kind_laws.specs.Wholes.{whole_of};
 ghost use Rattle.kind_laws.specs.Outputs.{output_of};
 ghost use Rattle.kind_laws.specs.Laws.{AreLinked};

@@ -1,5 +1,5 @@
 use Rattle.std.proofs.Common.{◌≡◌, map, take}
-use Rattle.workflow_file.specs.Plain.{int_column}
+use Rattle.flow_types.specs.Columns.{int_column}
 use Rattle.flow_types.proofs.typing.int_columns.Given as goal
 
 abbrev pub invariant-loop-text : goal.invariant-loop-text
