@@ -1,9 +1,8 @@
 -- What a kind makes of the whole lists of its inputs.
-use Rattle.std.specs.Prelude.{ℕ, List, [], ◌∷◌, map, Bool, true, false}
-use Rattle.std.specs.List.{filter}
+use Rattle.std.specs.Prelude.{ℕ, List, [], ◌∷◌, Bool, true, false}
 use Rattle.tuple_schema.specs.declared.value.Value.{Value}
 use Rattle.tuple_schema.specs.declared.schema.Column.{Column}
-use Rattle.tuple_schema.specs.Tuples.{part}
+use Rattle.list_algebra.specs.Outputs.{select, project}
 use Rattle.expr_lang.specs.declared.expr.Expr.{Expr}
 use Rattle.expr_lang.specs.declared.expr.Truth.{Truth}
 use Rattle.expr_lang.specs.declared.expr.Truth.TheVariants as truth
@@ -19,11 +18,11 @@ is_true truth.Unknown = false
 
 -- the rows of these columns of which the test is true, in their order
 abbrev pub selected : Expr → List Column → List (List Value) → List (List Value)
-selected test columns rows = filter (λ row. is_true (truth_of test columns row)) rows
+selected test columns rows = select (λ row. is_true (truth_of test columns row)) rows
 
 -- of each row the part at these places
 abbrev pub projected : List ℕ → List (List Value) → List (List Value)
-projected from rows = map (λ row. part row from) rows
+projected from rows = project from rows
 
 -- the list of the one input
 abbrev pub only : List (List (List Value)) → List (List Value)
