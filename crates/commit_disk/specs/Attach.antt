@@ -97,6 +97,11 @@ abbrev pub IsWithin : Attached → ℕ → Type 0
 IsWithin NotMade len = Unit {0}
 IsWithin (Made journal) len = journal.gate < len
 
+-- the journal is sound
+abbrev pub IsSound : Attached → Type 0
+IsSound NotMade = Unit {0}
+IsSound (Made journal) = journal.sound ≡ true
+
 -- an answer that speaks of the bytes, and not of want of memory or of a call that failed
 abbrev pub IsVerdict : Result Attached (Stop TableFault) → Type 0
 IsVerdict (Ok found) = Unit {0}

@@ -1,12 +1,12 @@
 // Attaching a table: its head and its gates are read, and none of its rows.
-ghost use Rattle.std.specs.Prelude.{◌≡◌, ◌≢◌, ◌≤◌, ◌<◌, ◌+◌, ◌^◌, ◌↔◌, [], ℕ, List, length, take, drop, min, slice_index, IsTrue, IsErrOf, IfOk, IfSome, OnOk, OnErr, false};
+ghost use Rattle.std.specs.Prelude.{◌≡◌, ◌≢◌, ◌≤◌, ◌<◌, ◌+◌, ◌^◌, ◌↔◌, [], ℕ, List, length, take, drop, min, slice_index, IsTrue, IsErrOf, IfOk, IfSome, OnOk, OnErr, true, false};
 ghost use Rattle.std.specs.Int.{w32, to_be_bytes, from_be_bytes};
 ghost use Rattle.outside.specs.Counts.{HasCause, Rose};
 ghost use Rattle.outside.specs.Disk.{Told};
 ghost use Rattle.tuple_schema.specs.Stops.{IfFault};
 ghost use Rattle.tuple_schema.specs.declared.memory.Stop.TheVariants as stop;
 ghost use Rattle.commit_disk.specs.declared.attaching.TableFault.TheVariants as fault;
-ghost use Rattle.commit_disk.specs.Attach.{LeadsTo, HasName, AttachTells, IsWithin};
+ghost use Rattle.commit_disk.specs.Attach.{LeadsTo, HasName, AttachTells, IsWithin, IsSound};
 ghost use Rattle.commit_disk.specs.Crashes.{IsSettled, GoesOn, NothingNew};
 ghost use Rattle.commit_disk.specs.Frames.{OnlyRead, HasDiskCause, HeadTells, BlockTells, IsOnTheWay, PassTells, GateTells, GatesTell, FoundTells};
 
@@ -63,6 +63,7 @@ pub fn attach<K: Disk>(
 ) -> Result<Attached, Stop<TableFault>>
     ensures tells { IsTrue (K.honest disk.old) → AttachTells result (K.seen disk.old) text.now }
     ensures within { IfOk result (λ found. IsWithin found (K.len disk.new)) }
+    ensures sound { IfOk result IsSound }
     ensures settled { OnOk result (IsTrue (K.honest disk.old) → IsSettled (K.seen disk.new) (K.may_leave disk.new)) }
     ensures same { OnOk result (IsTrue (K.honest disk.old) → K.seen disk.new ≡ K.seen disk.old) }
 
@@ -157,6 +158,7 @@ fn pass_block(journal: &mut Journal, head: &[u8; 10], room: u64) -> Result<(), T
     ensures onward { OnOk result (journal.old.gate < journal.new.gate) }
     ensures within { OnOk result (journal.new.gate < journal.old.gate + room) }
     ensures no_disk { result ≢ Err fault.Disk }
+    ensures sound { journal.new.sound ≡ journal.old.sound }
 {
     let at = journal.gate();
     if journal.ended() {
@@ -197,6 +199,7 @@ fn pass_gate<K: Disk>(disk: &mut K, size: u64, journal: &mut Journal) -> Result<
     ensures onward { IfOk result (λ passed. IsTrue passed → journal.old.gate < journal.new.gate) }
     ensures read { OnlyRead K.len K.honest K.seen K.may_leave K.clock K.left_at K.faults disk.old disk.new }
     ensures cause { HasDiskCause (K.faults disk.old) (K.faults disk.new) result }
+    ensures sound { journal.new.sound ≡ journal.old.sound }
 {
     let gate = journal.gate();
     let head = read_block_head(disk, gate, size)?;
@@ -217,6 +220,7 @@ fn read_gates<K: Disk>(disk: &mut K, size: u64, first: u64) -> Result<Journal, T
     ensures tells { IsTrue (K.honest disk.old) → size ≡ length (K.seen disk.old)
         → (text : List ℕ) → first ≡ 16 + length text → LeadsTo first (K.seen disk.old) text [] false → GatesTell result (K.seen disk.old) text }
     ensures within { IfOk result (λ journal. journal.gate < size) }
+    ensures sound { IfOk result (λ journal. journal.sound ≡ true) }
     ensures read { OnlyRead K.len K.honest K.seen K.may_leave K.clock K.left_at K.faults disk.old disk.new }
     ensures cause { HasDiskCause (K.faults disk.old) (K.faults disk.new) result }
 {
@@ -282,6 +286,7 @@ fn read_table<K: Disk>(
     requires len { size ≤ K.len disk.old }
     ensures tells { IsTrue (K.honest disk.old) → size ≡ length (K.seen disk.old) → FoundTells result (K.seen disk.old) text.now }
     ensures within { IfOk result (λ found. IsWithin found size) }
+    ensures sound { IfOk result IsSound }
     ensures read { OnlyRead K.len K.honest K.seen K.may_leave K.clock K.left_at K.faults disk.old disk.new }
     ensures cause { HasDiskCause (K.faults disk.old) (K.faults disk.new) result }
 {
@@ -304,6 +309,7 @@ fn settle_and_read<K: Disk>(
     requires { length copy.old ≡ length text.now }
     ensures tells { IsTrue (K.honest disk.old) → FoundTells result (K.seen disk.old) text.now }
     ensures within { IfOk result (λ found. IsWithin found (K.len disk.new)) }
+    ensures sound { IfOk result IsSound }
     ensures settled { OnOk result (IsTrue (K.honest disk.old) → IsSettled (K.seen disk.new) (K.may_leave disk.new)) }
     ensures same { OnOk result (IsTrue (K.honest disk.old) → K.seen disk.new ≡ K.seen disk.old) }
     ensures nothing_new { IsTrue (K.honest disk.old) → NothingNew (K.clock disk.old) (K.clock disk.new) (K.left_at disk.new) (K.may_leave disk.old) }

@@ -28,6 +28,7 @@ returns-clause-tells g c = λ honest sized text first leads.
 pub loop-preserved : goal.loop-preserved
 loop-preserved g c = record {
   within = c.in_ok-pass_gate.ensures.within;
+  sound = c.pass_gate.ensures.sound ∙ c.loop.invariant.sound;
   read = and_read g.K.Disk.len g.K.Disk.honest g.K.Disk.seen g.K.Disk.may_leave g.K.Disk.clock g.K.Disk.left_at g.K.Disk.faults g.met.K.Disk.left_now c.args.disk.now c.loop.disk c.pass_gate.new.disk c.loop.invariant.read c.pass_gate.ensures.read;
   way = λ honest sized text first leads.
       let same = c.loop.invariant.read.same_file honest in
