@@ -88,11 +88,6 @@ length-needs flow = simp (length-append, length-map)
 pub length-names : (flow : RawFlow) → length (names_of flow) ≡ length flow.sources + length flow.nodes
 length-names flow = simp (length-append, length-map)
 
-pub needs_seen : {X : Type 0} (see : X → List ℕ) (xs : List X) (flow : RawFlow) → map see xs ≡ names_of flow → length (needs_of flow) ≡ length xs
-needs_seen see xs flow is =
-    let seen : length (map see xs) ≡ length xs = rw length-map refl in
-    length-needs flow ∙ (sym (ap length is) ∙ seen)
-
 -- a source has no input
 pub source_leaf : (flow : RawFlow) (links : List (List ℕ)) (depth place : ℕ) → links ≡ links_of flow → place < length flow.sources → inputs_below links depth place ≡ []
 source_leaf flow links zero place is h = refl

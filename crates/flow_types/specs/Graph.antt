@@ -93,8 +93,3 @@ links_in inputs = map option_to_list inputs
 -- each input is a node
 abbrev pub AreWithin : List (Option ℕ) → Type 0
 AreWithin inputs = All (λ input. IfSome input (λ place. place < length inputs)) inputs
-
--- the link leads to this place
-abbrev pub is_link : Option ℕ → ℕ → Bool
-is_link None place = false
-is_link (Some input) place = input == place

@@ -156,8 +156,9 @@ fn count_uses(alloc: Global, root: usize, links: &[Option<usize>]) -> Result<Vec
     let mut uses = vec![in alloc; 0; links.len()]?;
     uses[root] = 1;
     for link in links {
-        if let Some(input) = link {
-            uses[*input] += 1;
+        match link {
+            None => {}
+            Some(input) => uses[*input] += 1,
         }
     }
     Ok(uses)
@@ -205,14 +206,25 @@ fn reach(links: &[Option<usize>], depth: usize, place: usize, reached: &mut [boo
     reached[place] = true;
 }
 
-fn all_reached(alloc: Global, root: usize, links: &[Option<usize>]) -> Result<(), Stop<SchemaFault>>
+// Whether the table's input reaches the node, at each place.
+fn mark_reached(alloc: Global, root: usize, links: &[Option<usize>]) -> Result<Vec<bool>, Memory>
     requires root { root < length links.now }
-    requires few { length links.now ≤ 80 }
     requires within { AreWithin links.now }
-    ensures { Gives result (all_reached root (links_in links.now)) }
+    ensures len { IfOk result (λ v. vec_len v ≡ length links.now) }
+    ensures reached { IfOk result (λ v. (place : ℕ) → place < length links.now → get_or v.items place false ≡ is_in (flow_tree root (links_in links.now)) place) }
 {
     let mut reached = vec![in alloc; false; links.len()]?;
     reach(links, links.len() - 1, root, &mut reached);
+    Ok(reached)
+}
+
+fn all_reached(alloc: Global, root: usize, links: &[Option<usize>]) -> Result<(), Stop<SchemaFault>>
+    requires few { length links.now ≤ 80 }
+    requires root { root < length links.now }
+    requires within { AreWithin links.now }
+    ensures { Gives result (all_reached root (links_in links.now)) }
+{
+    let reached = mark_reached(alloc, root, links)?;
     for place in 0..reached.len() {
         if !reached[place] {
             return Err(Stop::Fault(fault_at(place, SchemaCause::NotReached)));
