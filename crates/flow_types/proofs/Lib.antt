@@ -9,3 +9,4 @@ pub mod Links
 pub mod TypedTrees
 pub mod Chains
 pub mod Columns
+pub mod NodeTrees

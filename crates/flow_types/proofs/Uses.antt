@@ -16,7 +16,7 @@ uses_more : (root : ℕ) (links : List (Option ℕ)) (i : ℕ) (link : Option �
     → uses_of root (links_in (take (i + 1) links)) k ≡ uses_of root (links_in (take i links)) k + count_by (λ p. p == k) (option_to_list link)
 uses_more root links i link k h is =
     let more : concat (links_in (take (i + 1) links)) ≡ concat (links_in (take i links)) ++ option_to_list link =
-        rw (take_more links i None h, is, map-append, concat-append, append-nil) refl in
+    rw (take_more links i None h, is, map-append, concat-append, append-nil) refl in
     ap (λ ps. count_by (λ p. p == k) (root ∷ ps)) more ∙ sum_by-append (λ p. cond (p == k) 1 0) (root ∷ concat (links_in (take i links))) (option_to_list link)
 
 module _ (root : ℕ) (links : List (Option ℕ)) (i : ℕ) where

@@ -26,7 +26,7 @@ loop-link-preserved c =
             counts = λ k below. rw w.uses-is (one_more c.args.root c.args.links.now c.loop-link.link-index c.loop-link.uses.items w.in-Some.input w.index_mut-in-Some.result.now c.loop-link-test.true w.in-Some.is stored w.index_mut-in-Some.ensures.value k (c.loop-link.invariant.counts k below));
           }
       | in-None w ↦ record {
-          len = rw w.uses-is c.loop-link.invariant.len;
-          counts = λ k below. rw w.uses-is (c.loop-link.invariant.counts k below ∙ none_more c.args.root c.args.links.now c.loop-link.link-index k c.loop-link-test.true w.in-None.is);
-        }
+        len = rw w.uses-is c.loop-link.invariant.len;
+        counts = λ k below. rw w.uses-is (c.loop-link.invariant.counts k below ∙ none_more c.args.root c.args.links.now c.loop-link.link-index k c.loop-link-test.true w.in-None.is);
+      }
     ]

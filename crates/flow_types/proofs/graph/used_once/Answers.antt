@@ -11,7 +11,7 @@ returns-then-index-gt1 c =
     let within : place < length c.args.links.now = omega (arith, c.in_ok-uses.ensures.len, c.len-place-end.ensures, c.loop-place-test.true) in
     let stored : place < length uses.items = omega (arith, within, c.in_ok-uses.ensures.len, uses.ok.0) in
     let count : c.index.result.now ≡ uses_of c.args.root (links_in c.args.links.now) place =
-        c.index.ensures ∙ (get_or_default uses.items place c.index.result.now 0 stored ∙ c.in_ok-uses.ensures.uses place within) in
+    c.index.ensures ∙ (get_or_default uses.items place c.index.result.now 0 stored ∙ c.in_ok-uses.ensures.uses place within) in
     rw c.fault_at.ensures
     (used_twice c.args.root c.args.links.now place within (rw count at c.if-index-gt1.true) (λ k below. once uses.items k _ (c.loop-place.invariant k below) (c.in_ok-uses.ensures.uses k (omega arith))))
 
