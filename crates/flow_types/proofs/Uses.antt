@@ -1,9 +1,9 @@
 -- How often a node is an input.
-use Rattle.std.proofs.Common.{◌≡◌, ◌<◌, false, nat_lt, Ok, Err, ℕ, ◌+◌, ◌==◌, List, [], ◌∷◌, ◌++◌, count_by, cond, refl, ap, sym, ◌∙◌, zero-add, ◌≤◌, length, Option, Some, None, arith}
+use Rattle.std.proofs.Common.{◌≡◌, ◌<◌, false, nat_lt, Ok, Err, ℕ, ◌+◌, ◌==◌, List, [], ◌∷◌, count_by, cond, refl, ap, sym, ◌∙◌, zero-add, ◌≤◌, length, Option, Some, None, arith}
 use Rattle.std.specs.List.{concat}
 use Rattle.std.proofs.lemmas.List.Sums.{sum_by-cons, count_by-le-length}
 use Rattle.std.proofs.lemmas.List.{length-map}
-use Rattle.std.proofs.lemmas.Bool.{lt-ltb, le-ltb}
+use Rattle.std.proofs.lemmas.Bool.{lt-ltb}
 use Rattle.flow_types.specs.declared.fault.SchemaCause.TheVariants as cause
 use Rattle.flow_types.specs.Graph.{uses_of, used_once, links_in, is_link, fault_at}
 use Rattle.flow_types.proofs.Places.{least_is, least_none}

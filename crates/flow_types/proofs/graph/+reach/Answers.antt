@@ -1,4 +1,4 @@
-use Rattle.std.proofs.Common.{◌≡◌, append_assoc, refl}
+use Rattle.std.proofs.Common.{append_assoc, refl}
 use Rattle.flow_types.specs.Graph.{links_in}
 use Rattle.flow_types.proofs.Reached.{order_leaf, order_over}
 use Rattle.flow_types.proofs.graph.+reach.Goals as goal

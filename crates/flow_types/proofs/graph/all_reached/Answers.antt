@@ -1,4 +1,4 @@
-use Rattle.std.proofs.Common.{◌≡◌, refl, sym, ◌∙◌, arith}
+use Rattle.std.proofs.Common.{refl, sym, ◌∙◌}
 use Rattle.flow_types.proofs.Reached.{not_reached, reaches_all}
 use Rattle.flow_types.proofs.graph.all_reached.Goals as goal
 

@@ -1,6 +1,4 @@
-use Rattle.std.proofs.Common.{◌≡◌, arith, sym, ◌∙◌, subst, below_more, Err}
-use Rattle.std.proofs.lemmas.Bool.{le-ltb}
-use Rattle.flow_types.specs.Graph.{used_once, links_in}
+use Rattle.std.proofs.Common.{arith}
 use Rattle.flow_types.proofs.Uses.{used_twice, used_by_one}
 use Rattle.flow_types.proofs.graph.used_once.Goals as goal
 
