@@ -2,13 +2,14 @@
 ghost use Rattle.std.specs.Prelude.{◌≡◌, ◌≤◌, length, option_map, is_some, IsTrue, IfOk, IfSome};
 ghost use Rattle.std.specs.Char.{is_ascii_digit};
 ghost use Rattle.std.specs.List.{list_all};
-ghost use Rattle.workflow_file.specs.Texts.{head_of, rest_of, is_among, is_name, is_name_byte, is_lower};
+ghost use Rattle.workflow_file.specs.Texts.{head_of, rest_of, is_among};
 ghost use Rattle.expr_lang.specs.Texts.{words, is_column_name, comparison_of, are_digits, number_of, compared_with, expression_of};
 ghost use Rattle.expr_lang.specs.Views.{expression};
 
 use crate::expr::{Comparison, Expr};
 use std::alloc::Global;
 use tuple_schema::{Memory, Text};
+use workflow_file::is_name;
 
 /// Whether the text is an expression that is built at this stage.
 pub fn is_built(text: &str) -> bool
@@ -96,11 +97,12 @@ fn name_of(alloc: Global, name: &str) -> Result<Text, Memory>
     }
 }
 
+#[tactic(auto, unfolding(workflow_file::specs::Texts::is_name))]
 fn is_column_name(text: &str) -> bool
     ensures name { result ≡ is_column_name text.now }
     ensures short { IsTrue result → length text.now ≤ 40 }
 {
-    is_name(text) && !is_word(text)
+    is_name(text.as_bytes()) && !is_word(text)
 }
 
 // Whether the text is a word of the language.
@@ -112,36 +114,6 @@ fn is_word(text: &str) -> bool
         "length" | "scale" | "coalesce" | "if" => true,
         _ => false,
     }
-}
-
-#[tactic(auto, unfolding(workflow_file::specs::Texts::is_name))]
-fn is_name(text: &str) -> bool
-    ensures name { result ≡ is_name text.now }
-    ensures short { IsTrue result → length text.now ≤ 40 }
-{
-    let bytes = text.as_bytes();
-    if bytes.is_empty() || bytes.len() > 40 {
-        return false;
-    }
-    are_name_bytes(bytes) && is_lower(bytes[0]) && text != "table" && text != "none"
-}
-
-fn are_name_bytes(text: &[u8]) -> bool
-    ensures { result ≡ list_all is_name_byte text.now }
-{
-    text.iter().all(|b| is_name_byte(*b))
-}
-
-fn is_name_byte(b: u8) -> bool
-    ensures { result ≡ is_name_byte b }
-{
-    is_lower(b) || (b'0' <= b && b <= b'9') || b == b'_'
-}
-
-fn is_lower(b: u8) -> bool
-    ensures { result ≡ is_lower b }
-{
-    b'a' <= b && b <= b'z'
 }
 
 fn comparison_of(word: &str) -> Option<Comparison>

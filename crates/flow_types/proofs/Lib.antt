@@ -1,4 +1,5 @@
 pub mod Lists
+pub mod Numbered
 pub mod Places
 pub mod Uses
 pub mod Lookups

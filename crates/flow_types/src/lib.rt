@@ -13,6 +13,7 @@ mod built;
 mod fault;
 mod flow;
 mod graph;
+mod named;
 mod names;
 mod node;
 mod typing;
