@@ -1,5 +1,4 @@
 pub mod Lists
-pub mod Numbered
 pub mod Places
 pub mod Uses
 pub mod Lookups

@@ -13,7 +13,6 @@ mod built;
 mod fault;
 mod flow;
 mod graph;
-mod named;
 mod names;
 mod node;
 mod typing;
