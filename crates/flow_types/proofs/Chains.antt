@@ -1,5 +1,5 @@
 -- Chains, and schemas of whole numbers.
-use Rattle.std.proofs.Common.{◌≡◌, ◌-◌, List, [], ◌∷◌, ◌++◌, length, slice_get, All, IfSome, refl, sym, Option, Some, None, arith}
+use Rattle.std.proofs.Common.{◌≡◌, ℕ, zero, suc, ◌+◌, ◌-◌, ◌<◌, ◌≤◌, List, [], ◌∷◌, ◌++◌, map, take, get_or, length, slice_get, Bool, true, false, not, ◌&&◌, IsTrue, All, IfSome, refl, ap, sym, ◌∙◌, Option, Some, None, option_map, arith}
 use Rattle.std.proofs.lemmas.List.{length-append}
 use Rattle.flow_types.specs.declared.node.Node.{Node}
 use Rattle.flow_types.specs.Columns.{IsInt}
@@ -7,7 +7,7 @@ use Rattle.flow_types.specs.Typed.{last_of}
 use Rattle.flow_types.specs.Chain.{IsNode, IsChainFrom, IsChain}
 
 -- the node that one more stands behind
-behind : Option Node → List Node → Option Node
+unfoldable pub behind : Option Node → List Node → Option Node
 behind before [] = before
 behind before (n ∷ nodes) = behind (Some n) nodes
 
@@ -21,7 +21,7 @@ unfolding behind
 behind_last m [] = refl
 behind_last m (n ∷ nodes) = behind_last n nodes
 
-last_behind : (nodes : List Node) → last_of nodes ≡ behind None nodes
+pub last_behind : (nodes : List Node) → last_of nodes ≡ behind None nodes
 unfolding behind
 last_behind [] = refl
 last_behind (n ∷ nodes) =

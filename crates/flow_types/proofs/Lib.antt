@@ -1,4 +1,5 @@
 pub mod Lists
+pub mod Numbered
 pub mod Places
 pub mod Uses
 pub mod Lookups
@@ -8,3 +9,4 @@ pub mod Links
 pub mod TypedTrees
 pub mod Chains
 pub mod Columns
+pub mod NodeTrees

@@ -1,5 +1,5 @@
 -- The input of a selection or a projection.
-use Rattle.std.proofs.Common.{◌≡◌, ℕ, zero, suc, ◌+◌, ◌<◌, ◌≤◌, List, [], ◌∷◌, length, map, filter_map, get_or, codes, bytes_eq, Bool, true, false, is_some, is_none, refl, ap, sym, ◌∙◌, ◌⊎◌, inl, inr, Option, Some, None, option_to_list, arith}
+use Rattle.std.proofs.Common.{◌≡◌, ℕ, zero, suc, ◌+◌, ◌-◌, ◌<◌, ◌≤◌, List, [], ◌∷◌, ◌++◌, length, map, filter_map, get_or, codes, bytes_eq, Bool, true, false, ◌&&◌, ◌||◌, is_some, is_none, IsTrue, refl, ap, sym, ◌∙◌, ◌⊎◌, inl, inr, Option, Some, None, option_to_list, arith}
 use Rattle.std.specs.List.{list_all}
 use Rattle.std.proofs.lemmas.Bool.{and_parts, or_cases, cases_Bool, both_ways}
 use Rattle.std.proofs.lemmas.List.Folds.{list_all_at}
@@ -87,11 +87,6 @@ length-needs flow = simp (length-append, length-map)
 
 pub length-names : (flow : RawFlow) → length (names_of flow) ≡ length flow.sources + length flow.nodes
 length-names flow = simp (length-append, length-map)
-
-pub needs_seen : {X : Type 0} (see : X → List ℕ) (xs : List X) (flow : RawFlow) → map see xs ≡ names_of flow → length (needs_of flow) ≡ length xs
-needs_seen see xs flow is =
-    let seen : length (map see xs) ≡ length xs = rw length-map refl in
-    length-needs flow ∙ (sym (ap length is) ∙ seen)
 
 -- a source has no input
 pub source_leaf : (flow : RawFlow) (links : List (List ℕ)) (depth place : ℕ) → links ≡ links_of flow → place < length flow.sources → inputs_below links depth place ≡ []

@@ -5,3 +5,4 @@ pub mod Graph
 pub mod Built
 pub mod Typed
 pub mod Chain
+pub mod NodeTrees

@@ -1,15 +1,14 @@
 // The graph of a flow. At this stage a node has at most one input, so a link is one place or none.
-ghost use Rattle.std.specs.Prelude.{◌≡◌, ◌<◌, ◌≤◌, ◌==◌, ◌++◌, [], ℕ, Some, false, is_some, map, filter_map, count_by, length, vec_len, get_or, option_copied, option_to_list, IsTrue, IfOk, IfSome, OnOk};
-ghost use Rattle.std.specs.List.{list_any};
+ghost use Rattle.std.specs.Prelude.{◌≡◌, ◌<◌, ◌≤◌, ◌++◌, ◌||◌, [], ℕ, Some, false, is_some, map, filter_map, length, vec_len, get_or, option_copied, option_to_list, IsTrue, IfOk, IfSome, OnOk};
 ghost use Rattle.tuple_schema.specs.Stops.{Gives, GivesView, IfFault};
 ghost use Rattle.workflow_file.specs.Kept.{KeepsRules};
 ghost use Rattle.expr_lang.specs.Truths.{place_of};
 ghost use Rattle.flow_types.specs.Built.{is_built};
-ghost use Rattle.flow_types.specs.Trees.{tree_below, inputs_below, in_order};
-ghost use Rattle.flow_types.specs.Graph.{names_of, needs_of, links_of, links_in, is_link, AreWithin, fault_at, names_differ, input_fault, inputs_exist, root_at, uses_of, used_once, all_reached, flow_tree, graph_of};
+ghost use Rattle.flow_types.specs.Trees.{tree_below, inputs_below};
+ghost use Rattle.flow_types.specs.Graph.{names_of, needs_of, links_of, links_in, AreWithin, fault_at, input_fault, inputs_exist, root_at, uses_of, used_once, is_in, all_reached, flow_tree, graph_of};
 
 use crate::fault::{NodeId, SchemaCause, SchemaFault};
-use crate::names::{again, place_of};
+use crate::named::Places;
 use std::alloc::Global;
 use tuple_schema::{Memory, Stop, Text};
 use workflow_file::RawFlow;
@@ -31,10 +30,10 @@ pub fn read_graph(alloc: Global, raw: &RawFlow) -> Result<Graph, Stop<SchemaFaul
     ensures root { IfOk result (λ g. g.root < vec_len g.links) }
 {
     let names = names_of(alloc, raw)?;
-    names_differ(&names)?;
-    let links = links_of(alloc, raw, &names)?;
-    let root = root_at(&names, &raw.table.input)?;
-    used_once(root, &links)?;
+    let places = Places::of(alloc, &names)?;
+    let links = links_of(alloc, raw, &places)?;
+    let root = root_at(&places, &raw.table.input)?;
+    used_once(alloc, root, &links)?;
     all_reached(alloc, root, &links)?;
     Ok(Graph { root, links })
 }
@@ -71,16 +70,6 @@ pub fn fault_at(place: usize, cause: SchemaCause) -> SchemaFault
     }
 }
 
-fn names_differ(names: &[&Text]) -> Result<(), Stop<SchemaFault>>
-    requires { length names.now ≤ 80 }
-    ensures { Gives result (names_differ (map (λ n. n.now) names.now)) }
-{
-    match again(names) {
-        None => Ok(()),
-        Some(place) => Err(Stop::Fault(fault_at(place, SchemaCause::NameTwice))),
-    }
-}
-
 // The input of the node at a place. A source has none, and selections and projections have one.
 fn input_of(raw: &RawFlow, place: usize) -> Option<&Text>
     requires kept { KeepsRules raw.now }
@@ -103,37 +92,37 @@ fn input_of(raw: &RawFlow, place: usize) -> Option<&Text>
 fn links_of(
     alloc: Global,
     raw: &RawFlow,
-    names: &[&Text],
+    places: &Places,
 ) -> Result<Vec<Option<usize>>, Stop<SchemaFault>>
     requires kept { KeepsRules raw.now }
     requires built { IsTrue (is_built raw.now) }
-    requires names { map (λ n. n.now) names.now ≡ names_of raw.now }
+    requires names { places.now ≡ names_of raw.now }
     ensures inputs { GivesView (λ _. tt) result (inputs_exist (names_of raw.now) (needs_of raw.now)) }
     ensures links { IfOk result (λ v. links_in v.items ≡ links_of raw.now) }
     ensures within { IfOk result (λ v. AreWithin v.items) }
-    ensures len { IfOk result (λ v. vec_len v ≡ length names.now) }
+    ensures len { IfOk result (λ v. vec_len v ≡ length places.now) }
 {
     let mut links = Vec::new(alloc);
-    for place in 0..names.len() {
-        links.push(link_of(raw, names, place)?)?;
+    for place in 0..places.len() {
+        links.push(link_of(raw, places, place)?)?;
     }
     Ok(links)
 }
 
 // The place of the input of the node at a place.
-fn link_of(raw: &RawFlow, names: &[&Text], place: usize) -> Result<Option<usize>, Stop<SchemaFault>>
+fn link_of(raw: &RawFlow, places: &Places, place: usize) -> Result<Option<usize>, Stop<SchemaFault>>
     requires kept { KeepsRules raw.now }
     requires built { IsTrue (is_built raw.now) }
     requires place { place < 256 }
-    ensures link { IfOk result (λ link. option_to_list link ≡ filter_map (place_of (map (λ n. n.now) names.now)) (get_or (needs_of raw.now) place [])) }
-    ensures there { OnOk result (is_some (input_fault (map (λ n. n.now) names.now) (needs_of raw.now) place) ≡ false) }
-    ensures within { IfOk result (λ link. IfSome link (λ input. input < length names.now)) }
-    ensures missing { IfFault result (λ fault. input_fault (map (λ n. n.now) names.now) (needs_of raw.now) place ≡ Some fault) }
+    ensures link { IfOk result (λ link. option_to_list link ≡ filter_map (place_of places.now) (get_or (needs_of raw.now) place [])) }
+    ensures there { OnOk result (is_some (input_fault places.now (needs_of raw.now) place) ≡ false) }
+    ensures within { IfOk result (λ link. IfSome link (λ input. input < length places.now)) }
+    ensures missing { IfFault result (λ fault. input_fault places.now (needs_of raw.now) place ≡ Some fault) }
 {
     let Some(name) = input_of(raw, place) else {
         return Ok(None);
     };
-    if let Some(input) = place_of(names, name) {
+    if let Some(input) = places.place(name) {
         return Ok(Some(input));
     }
     let name = name.copy()?;
@@ -142,11 +131,11 @@ fn link_of(raw: &RawFlow, names: &[&Text], place: usize) -> Result<Option<usize>
 }
 
 // The place of the table's input.
-fn root_at(names: &[&Text], input: &Text) -> Result<usize, Stop<SchemaFault>>
-    ensures root { Gives result (root_at input.now (place_of (map (λ n. n.now) names.now) input.now)) }
-    ensures within { IfOk result (λ root. root < length names.now) }
+fn root_at(places: &Places, input: &Text) -> Result<usize, Stop<SchemaFault>>
+    ensures root { Gives result (root_at input.now (place_of places.now input.now)) }
+    ensures within { IfOk result (λ root. root < length places.now) }
 {
-    match place_of(names, input) {
+    match places.place(input) {
         Some(root) => Ok(root),
         None => {
             let name = input.copy()?;
@@ -156,37 +145,34 @@ fn root_at(names: &[&Text], input: &Text) -> Result<usize, Stop<SchemaFault>>
     }
 }
 
-fn is_link(link: &Option<usize>, place: usize) -> bool
-    ensures { result ≡ is_link link.now place }
+// How often the node at each place is an input, the table's among them.
+fn count_uses(alloc: Global, root: usize, links: &[Option<usize>]) -> Result<Vec<usize>, Memory>
+    requires few { length links.now ≤ 80 }
+    requires root { root < length links.now }
+    requires within { AreWithin links.now }
+    ensures len { IfOk result (λ v. vec_len v ≡ length links.now) }
+    ensures uses { IfOk result (λ v. (place : ℕ) → place < length links.now → get_or v.items place 0 ≡ uses_of root (links_in links.now) place) }
 {
-    match link {
-        None => false,
-        Some(input) => *input == place,
+    let mut uses = vec![in alloc; 0; links.len()]?;
+    uses[root] = 1;
+    for link in links {
+        match link {
+            None => {}
+            Some(input) => uses[*input] += 1,
+        }
     }
+    Ok(uses)
 }
 
-fn links_to(links: &[Option<usize>], place: usize) -> usize
-    ensures { result ≡ count_by (λ link. is_link link place) links.now }
-{
-    links.iter().filter(|link| is_link(link, place)).count()
-}
-
-// How often the node at a place is an input, the table's among them.
-#[tactic(auto, using(crate::proofs::Uses::uses_is))]
-fn uses_of(root: usize, links: &[Option<usize>], place: usize) -> usize
-    requires { length links.now ≤ 80 }
-    ensures { result ≡ uses_of root (links_in links.now) place }
-{
-    let below = links_to(links, place);
-    if root == place { below + 1 } else { below }
-}
-
-fn used_once(root: usize, links: &[Option<usize>]) -> Result<(), Stop<SchemaFault>>
-    requires { length links.now ≤ 80 }
+fn used_once(alloc: Global, root: usize, links: &[Option<usize>]) -> Result<(), Stop<SchemaFault>>
+    requires few { length links.now ≤ 80 }
+    requires root { root < length links.now }
+    requires within { AreWithin links.now }
     ensures { Gives result (used_once root (links_in links.now)) }
 {
-    for place in 0..links.len() {
-        if uses_of(root, links, place) > 1 {
+    let uses = count_uses(alloc, root, links)?;
+    for place in 0..uses.len() {
+        if uses[place] > 1 {
             return Err(Stop::Fault(fault_at(place, SchemaCause::UsedTwice)));
         }
     }
@@ -205,40 +191,44 @@ pub fn link_below(links: &[Option<usize>], depth: usize, place: usize) -> Option
     links[place]
 }
 
-// Puts the nodes of a tree at the end of those that are reached, inputs first.
-fn reach(
-    links: &[Option<usize>],
-    depth: usize,
-    place: usize,
-    reached: &mut Vec<usize>,
-) -> Result<(), Memory>
-    ensures { OnOk result (reached.new.items ≡ reached.old.items ++ in_order (tree_below (links_in links.now) depth place)) }
+// Marks the nodes of a tree.
+fn reach(links: &[Option<usize>], depth: usize, place: usize, reached: &mut [bool])
+    requires all { length reached.old ≡ length links.now }
+    requires place { place < length links.now }
+    requires within { AreWithin links.now }
+    ensures len { length reached.new ≡ length reached.old }
+    ensures marked { (k : ℕ) → get_or reached.new k false ≡ (get_or reached.old k false || is_in (tree_below (links_in links.now) depth place) k) }
 {
     match link_below(links, depth, place) {
         None => {}
-        Some(input) => reach(links, depth - 1, input, reached)?,
+        Some(input) => reach(links, depth - 1, input, reached),
     }
-    reached.push(place)?;
-    Ok(())
+    reached[place] = true;
+}
+
+// Whether the table's input reaches the node, at each place.
+fn mark_reached(alloc: Global, root: usize, links: &[Option<usize>]) -> Result<Vec<bool>, Memory>
+    requires root { root < length links.now }
+    requires within { AreWithin links.now }
+    ensures len { IfOk result (λ v. vec_len v ≡ length links.now) }
+    ensures reached { IfOk result (λ v. (place : ℕ) → place < length links.now → get_or v.items place false ≡ is_in (flow_tree root (links_in links.now)) place) }
+{
+    let mut reached = vec![in alloc; false; links.len()]?;
+    reach(links, links.len() - 1, root, &mut reached);
+    Ok(reached)
 }
 
 fn all_reached(alloc: Global, root: usize, links: &[Option<usize>]) -> Result<(), Stop<SchemaFault>>
-    requires some { 1 ≤ length links.now }
     requires few { length links.now ≤ 80 }
+    requires root { root < length links.now }
+    requires within { AreWithin links.now }
     ensures { Gives result (all_reached root (links_in links.now)) }
 {
-    let mut reached = Vec::new(alloc);
-    reach(links, links.len() - 1, root, &mut reached)?;
-    for place in 0..links.len() {
-        if !is_in(&reached, place) {
+    let reached = mark_reached(alloc, root, links)?;
+    for place in 0..reached.len() {
+        if !reached[place] {
             return Err(Stop::Fault(fault_at(place, SchemaCause::NotReached)));
         }
     }
     Ok(())
-}
-
-fn is_in(reached: &[usize], place: usize) -> bool
-    ensures { result ≡ list_any (λ p. p == place) reached.now }
-{
-    reached.iter().any(|p| *p == place)
 }

@@ -1,14 +1,16 @@
-use Rattle.std.proofs.Common.{append_assoc, refl}
+use Rattle.std.proofs.Common.{◌≡◌, ◌<◌, length, arith}
 use Rattle.flow_types.specs.Graph.{links_in}
-use Rattle.flow_types.proofs.Reached.{order_leaf, order_over}
+use Rattle.flow_types.proofs.Reached.{marked_leaf, marked_over}
 use Rattle.flow_types.proofs.graph.+reach.Goals as goal
-use Rattle.flow_types.proofs.graph.+reach.Goals.{in-Some+in_ok-reach-in-Some, in-None}
+use Rattle.flow_types.proofs.graph.+reach.Goals.{in-Some, in-None}
 
-pub returns : goal.returns
-returns t c =
+pub returns-clause-marked : goal.returns-clause-marked
+returns-clause-marked t c =
     elim c.match-link_below.branch [
       | in-None w ↦
-          rw (c.in_ok-push.ensures.items, w.reached-is, order_leaf (links_in c.args.links.now) c.args.depth c.args.place w.in-None.ensures.link) refl
-      | in-Some+in_ok-reach-in-Some w ↦
-          rw (c.in_ok-push.ensures.items, w.reached-is, w.in_ok-reach-in-Some.ensures, order_over (links_in c.args.links.now) c.args.depth c.args.place w.in-Some.input w.in-Some.ensures.link, append_assoc) refl
+          let within : c.args.place < length c.args.reached.now = rw c.requires.all c.requires.place in
+          rw w.reached-is (marked_leaf (links_in c.args.links.now) c.args.depth c.args.place c.args.reached.now w.in-None.ensures.link within)
+      | in-Some w ↦
+          let within : c.args.place < length w.reach.new.reached = rw (w.reach.ensures.len, c.requires.all) c.requires.place in
+          rw w.reached-is (marked_over (links_in c.args.links.now) c.args.depth c.args.place w.reach.new.reached c.args.reached.now w.in-Some.input w.in-Some.ensures.link within w.reach.ensures.marked)
     ]
