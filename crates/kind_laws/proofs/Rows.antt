@@ -9,7 +9,7 @@ use Rattle.tuple_schema.specs.declared.schema.ColumnKind.TheVariants as kind
 use Rattle.tuple_schema.specs.Schemas.{Fits, fits, is_of}
 use Rattle.tuple_schema.specs.Tuples.{part}
 use Rattle.flow_types.specs.Columns.{IsInt}
-use Rattle.flow_types.specs.Chain.{IsProjection, IsOver}
+use Rattle.flow_types.specs.Chain.{Takes, IsOver}
 use Rattle.expr_lang.specs.Truths.{truth_of}
 use Rattle.flow_types.specs.declared.node.Kind.{Kind}
 use Rattle.flow_types.specs.declared.node.Kind.TheVariants as node
@@ -74,7 +74,7 @@ places_within columns from rows within fit =
 
 -- the rows of a projection fit its columns
 pub projected_fit : (columns output : List Column) (from : List ℕ) (rows : List (List Value)) → All IsInt columns → All IsInt output
-    → IsProjection columns from output → All (λ row. Fits columns row) rows → All (λ row. Fits output row) (projected from rows)
+    → Takes columns from output → All (λ row. Fits columns row) rows → All (λ row. Fits output row) (projected from rows)
 projected_fit columns output from rows ints outs is fit =
     All-map (λ row. Fits output row) (λ row. part row from) rows
     (All-weaker (λ row. Fits columns row) (λ row. Fits output (part row from)) (λ row fits. part_fits columns output from row ints outs fits is.within is.each) rows fit)

@@ -87,6 +87,7 @@ impl Writer {
 
         ensures of_columns { OnOk result (All (IsRowOf schema.now) rows.now) }
         ensures moved { OnOk result (journal.new ≡ after_end (behind journal.old (cut batch rows.now))) }
+        ensures count { OnOk result (journal.new.count ≡ journal.old.count + length rows.now) }
         ensures done { OnOk result (IsTrue (K.honest disk.old) → (text : List ℕ) (olds : List Stored)
             → HoldsUpTo journal.old.gate (K.seen disk.old) text olds false
             → HoldsUpTo journal.new.gate (K.seen disk.new) text (with_blocks olds (cut batch rows.now)) true) }

@@ -1,6 +1,9 @@
-use Rattle.std.proofs.Common.{◌<◌, ◌+◌, ◌^◌, inl, inr, All, sym, subst, arith}
+use Rattle.std.proofs.Common.{◌≡◌, ◌∙◌, ◌<◌, ◌+◌, ◌^◌, inl, inr, length, All, sym, ap, subst, arith}
 use Rattle.std.proofs.lemmas.Bool.{cases_lt, iff_false}
+use Rattle.std.proofs.lemmas.List.Concat.{length-flat_map}
+use Rattle.std.specs.List.{sum_by}
 use Rattle.row_codec.specs.Decoding.{IsRowOf}
+use Rattle.commit_disk.specs.Journal.{JournalState}
 use Rattle.table_write.specs.Cut.{cut}
 use Rattle.table_write.proofs.Cuts.{cut_is}
 use Rattle.table_write.proofs.Adding.{leaves_end, filled_at_end}
@@ -35,3 +38,12 @@ returns-clause-any_moment g c =
     let end = c.end.ensures in
     leaves_end g.K.Disk.len g.K.Disk.honest g.K.Disk.seen g.K.Disk.may_leave g.K.Disk.clock g.K.Disk.left_at c.args.schema.now (cut c.args.batch c.args.rows.now) c.args.journal.now c.args.disk.now
     c.append_blocks.new.journal c.append_blocks.new.disk blocks.added c.end.new.disk blocks.honest blocks.any_moment end.any_moment end.grows end.time
+
+pub returns-clause-count : goal.returns-clause-count
+returns-clause-count g c =
+    let blocks = cut c.args.batch c.args.rows.now in
+    let cuts = cut_is c.args.batch c.args.rows.now c.requires.some in
+    let all : length c.args.rows.now ≡ sum_by length blocks = ap length cuts.whole ∙ length-flat_map (λ block. block) blocks in
+    let ended = ap (λ (j : JournalState). j.count) c.in_ok-end.ensures.moved in
+    let added = ap (λ (j : JournalState). j.count) c.in_ok-append_blocks.ensures.added.moved in
+    omega (arith, all, ended, added)

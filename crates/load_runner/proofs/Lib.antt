@@ -1,0 +1,9 @@
+pub mod Readings
+pub mod Standings
+pub mod Moments
+pub mod Chains
+pub mod Tables
+pub mod Begun
+pub mod Ran
+pub mod Answers
+pub mod Completed

@@ -1,0 +1,17 @@
+use Rattle.std.proofs.Common.{◌≡◌, ◌∙◌, List, ℕ, sym, subst}
+use Rattle.commit_disk.specs.Attach.{TellsOf, FindTells}
+use Rattle.commit_disk.specs.declared.attaching.Attached.TheVariants as Attached
+use Rattle.load_runner.specs.Starts.{Starts}
+use Rattle.load_runner.proofs.begin.begin.Goals as goal
+
+pub returns-in_ok-verify_rows-in-Made-clause-found : goal.returns-in_ok-verify_rows-in-Made-clause-found
+returns-in_ok-verify_rows-in-Made-clause-found g c = λ honest.
+    let text = c.args.text.now in
+    let journal = c.in-Made.journal in
+    let told_old : TellsOf journal (g.K.Disk.seen c.args.disk.now) text = rw c.in-Made.is at (c.in-Ok.ensures.tells honest) in
+    let attached = c.in-Ok.ensures.same honest in
+    let told : TellsOf journal (g.K.Disk.seen c.attach.new.disk) text = subst (λ (image : List ℕ). TellsOf journal image text) (sym attached) told_old in
+    let still = c.in-Ok.ensures.honest ∙ honest in
+    let read = c.in_ok-verify_rows-in-Made.ensures.rows still text told in
+    let same = c.in_ok-verify_rows-in-Made.ensures.only_read.same_file still in
+    subst (λ (image : List ℕ). Starts (Attached.Made journal) image text c.args.schema.now) (sym same) (told, read)

@@ -1,0 +1,27 @@
+-- What the file of a table is found to be, under a flow's text and the columns of its root.
+use Rattle.std.specs.Prelude.{◌≡◌, ◌≢◌, ◌⊎◌, ◌+◌, ℕ, List, [], length, Bool, Result, Ok, Err, Some}
+use Rattle.tuple_schema.specs.declared.value.Value.{Value}
+use Rattle.tuple_schema.specs.declared.schema.Column.{Column}
+use Rattle.commit_disk.specs.Table.{Stored, Holds}
+use Rattle.commit_disk.specs.Attach.{IsWrongAt, IsTable}
+use Rattle.table_read.specs.Rows.{table_rows}
+use Rattle.table_write.specs.Rows.{HoldsRows}
+
+-- the image is a table of this text, in whose blocks this is the first place that is no row
+pub record HasWrongRow (place : ℕ) (image text : List ℕ) (columns : List Column) : Type 0 where
+  pub blocks : List Stored
+  pub ended : Bool
+  pub holds : Holds image text blocks ended
+  pub wrong : table_rows columns (16 + length text) blocks ≡ Err place
+
+-- what may be found: rows, in a table that is ended or not; the first wrong place; or a table of another text
+pub data State : Type 0 where
+  rows : List (List Value) → Bool → State
+  wrong : ℕ → State
+  other : State
+
+-- the image is found to be this
+abbrev pub IsFound : List ℕ → List ℕ → List Column → State → Type 0
+IsFound image text columns (rows committed ended) = HoldsRows image text columns committed ended
+IsFound image text columns (wrong place) = IsWrongAt place image ⊎ HasWrongRow place image text columns
+IsFound image text columns other = (stored : List ℕ) × (stored ≢ text) × ((place : ℕ) × IsTable place image stored)

@@ -1,0 +1,10 @@
+pub mod Standing
+pub mod Sources
+pub mod Found
+pub mod Safe
+pub mod Starts
+pub mod Faults
+pub mod Answers
+pub mod Reports
+pub mod Loads
+pub mod Histories

@@ -1,0 +1,54 @@
+// Why a load stopped.
+ghost use Rattle.std.specs.Prelude.{◌≡◌};
+ghost use Rattle.load_runner.specs.Starts.{of_table, stop_of_table};
+
+use commit_disk::TableFault;
+use table_write::WriteFault;
+use thiserror::Error;
+use tuple_schema::Stop;
+
+/// Why a load stopped. Want of memory is none of these.
+#[derive(Clone, Copy, Debug, PartialEq, Eq, Error)]
+pub enum LoadFault {
+    /// A call on the source files failed.
+    #[error("a source file failed")]
+    Depot,
+    /// A call on the table's file failed. Load again: what was committed stays.
+    #[error("the table file failed")]
+    Disk,
+    /// The file is made and isn't a table: this is the first wrong place. Nothing was changed.
+    #[error("not a table at {at}")]
+    NotATable { at: u64 },
+    /// The file is a table of another flow text. Nothing was changed.
+    #[error("the table was made by another workflow")]
+    WorkflowDiffers,
+    /// A source's file is missing, too long, or has no content. Nothing was changed.
+    #[error("the source file is not built yet")]
+    NotBuilt,
+    /// The next block would end past the longest file. The blocks that have room are committed.
+    #[error("the table is full")]
+    Full,
+}
+
+/// The stop of a load that a stop of reading the table is.
+pub fn of_table(stop: Stop<TableFault>) -> Stop<LoadFault>
+    ensures { result ≡ stop_of_table stop }
+{
+    match stop {
+        Stop::Memory => Stop::Memory,
+        Stop::Fault(TableFault::Disk) => Stop::Fault(LoadFault::Disk),
+        Stop::Fault(TableFault::NotATable { at }) => Stop::Fault(LoadFault::NotATable { at }),
+        Stop::Fault(TableFault::WorkflowDiffers) => Stop::Fault(LoadFault::WorkflowDiffers),
+    }
+}
+
+/// The fault of a load that a fault of writing the table is.
+pub fn of_write(fault: WriteFault) -> LoadFault
+    ensures disk { fault ≡ WriteFault.Disk → result ≡ LoadFault.Disk }
+    ensures full { fault ≡ WriteFault.Full → result ≡ LoadFault.Full }
+{
+    match fault {
+        WriteFault::Disk => LoadFault::Disk,
+        WriteFault::Full => LoadFault::Full,
+    }
+}

@@ -1,0 +1,103 @@
+// What a load reports.
+ghost use Rattle.std.specs.Prelude.{◌≡◌, [], ◌∷◌, ◌++◌, OnOk, OnErr, IfOk};
+ghost use Rattle.load_runner.specs.Reports.{report_of, ended_report, skipped};
+
+use flow_types::NodeId;
+use std::alloc::Global;
+use std::marker::Model;
+use tuple_schema::Memory;
+
+/// How many rows of a node passed the filter on its edge, and how many were dropped there.
+#[derive(Clone, Copy, Debug, PartialEq, Eq)]
+pub struct EdgeCount {
+    pub edge: NodeId,
+    pub passed: u64,
+    pub dropped: u64,
+}
+
+/// The edges that were filtered. A contract sees them as their list.
+#[derive(Debug, Drop)]
+pub struct ReportEdges {
+    items: Vec<EdgeCount>,
+}
+
+impl Model for ReportEdges {
+    ghost use Rattle.std.specs.Prelude.{List};
+    ghost use Rattle.load_runner.specs.declared.report.EdgeCount.{EdgeCount};
+
+    ghost Value = { List EdgeCount };
+
+    ghost view = { λ e. e.items.items };
+}
+
+impl ReportEdges {
+    /// The empty list.
+    pub fn new(alloc: Global) -> ReportEdges
+        ensures { result ≡ [] }
+    {
+        ReportEdges {
+            items: Vec::new(alloc),
+        }
+    }
+
+    /// Makes the edge the new last one.
+    pub fn push(&mut self, item: EdgeCount) -> Result<(), Memory>
+        ensures ok { OnOk result (self.new ≡ self.old ++ item ∷ []) }
+        ensures err { OnErr result (self.new ≡ self.old) }
+    {
+        self.items.push(item)?;
+        Ok(())
+    }
+
+    pub fn items(&self) -> &[EdgeCount]
+        ensures { result.now ≡ self.now }
+    {
+        &self.items
+    }
+}
+
+/// How many rows stood before a load, how many it added, and what its filters did.
+#[derive(Debug, Drop)]
+pub struct Report {
+    pub committed_before: u64,
+    pub added: u64,
+    pub edges: ReportEdges,
+}
+
+/// The report of a load over an ended table.
+pub fn ended_report(alloc: Global, before: u64) -> Report
+    ensures { result ≡ ended_report before }
+{
+    Report {
+        committed_before: before,
+        added: 0,
+        edges: ReportEdges::new(alloc),
+    }
+}
+
+/// The report of a load that skips the rows that stand, of as many as there are in all.
+pub fn report_of(alloc: Global, root: NodeId, before: u64, whole: u64) -> Result<Report, Memory>
+    ensures { IfOk result (λ r. r ≡ report_of root before whole) }
+{
+    let added = whole.saturating_sub(before);
+    Ok(Report {
+        committed_before: before,
+        added,
+        edges: skipped(alloc, root, before, whole)?,
+    })
+}
+
+// What was done at the root's edge.
+fn skipped(alloc: Global, root: NodeId, before: u64, whole: u64) -> Result<ReportEdges, Memory>
+    ensures { IfOk result (λ e. e ≡ skipped root before whole) }
+{
+    let mut edges = ReportEdges::new(alloc);
+    if before > 0 {
+        edges.push(EdgeCount {
+            edge: root,
+            passed: whole.saturating_sub(before),
+            dropped: before.min(whole),
+        })?;
+    }
+    Ok(edges)
+}

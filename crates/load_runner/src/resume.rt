@@ -1,0 +1,121 @@
+// Going on with a load, once the table was read.
+ghost use Rattle.std.specs.Prelude.{◌≡◌, ◌≢◌, ◌≤◌, ◌⊎◌, ℕ, List, IsTrue, Err, None, Some, All, IfOk, OnOk, length, take, drop, true, false};
+ghost use Rattle.outside.specs.Counts.{Rose};
+ghost use Rattle.outside.specs.Depot.{Files};
+ghost use Rattle.tuple_schema.specs.Stops.{IfFault};
+ghost use Rattle.tuple_schema.specs.declared.value.Value.{Value};
+ghost use Rattle.tuple_schema.specs.declared.memory.Stop.TheVariants as stop;
+ghost use Rattle.commit_disk.specs.Table.{Stored, Holds};
+ghost use Rattle.commit_disk.specs.Attach.{IsWithin, IsSound};
+ghost use Rattle.commit_disk.specs.Crashes.{IsSettled, GoesOn, LeftBetween, Each, Grows};
+ghost use Rattle.row_codec.specs.Decoding.{IsRowOf};
+ghost use Rattle.table_write.specs.Cut.{together};
+ghost use Rattle.table_write.specs.Adds.{with_blocks, AllHaveRoom, IsFullBehind};
+ghost use Rattle.load_runner.specs.declared.fault.LoadFault.TheVariants as fault;
+ghost use Rattle.load_runner.specs.Sources.{whole_in, root_columns};
+ghost use Rattle.load_runner.specs.Safe.{IsGrown};
+ghost use Rattle.load_runner.specs.Starts.{IsAt, is_ended, count_of, gate_of};
+ghost use Rattle.load_runner.specs.Loads.{IsMeaning, AllAdded, missing_blocks, LeavesTable, Settles, RestsOn};
+
+use crate::fault::LoadFault;
+use crate::finish::finish;
+use crate::report::{Report, report_of};
+use crate::sources::whole_rows;
+use commit_disk::{Attached, MAX_FLOW_BYTES, MAX_ROWS};
+use flow_types::Flow;
+use outside::{Depot, Disk};
+use std::alloc::Global;
+use table_write::Writer;
+use tuple_schema::{Stop, Tuple};
+
+/// Reads what the flow means, and adds what is missing behind the rows that were found.
+pub fn resume<D: Depot, K: Disk>(
+    alloc: Global,
+    flow: &Flow,
+    text: &[u8],
+    batch: u32,
+    depot: &mut D,
+    disk: &mut K,
+    found: Attached,
+) -> Result<Report, Stop<LoadFault>>
+    requires short { length text.now ≤ MAX_FLOW_BYTES }
+    requires some { 1 ≤ batch }
+    requires few { batch ≤ MAX_ROWS }
+    requires sound { IsSound found }
+    requires unended { is_ended found ≡ false }
+    requires within { IsWithin found (K.len disk.old) }
+    requires start { IsTrue (K.honest disk.old) → (olds : List Stored) × IsAt found (K.seen disk.old) text.now olds }
+
+    ensures done { IfOk result (λ report. IsTrue (K.honest disk.old)
+        → AllAdded flow.now (D.files depot.old) text.now batch found (K.seen disk.old) (K.seen disk.new) report) }
+    ensures none { result ≡ Err (stop.Fault fault.NotBuilt) → (files : Files) → D.files depot.old ≡ Some files → whole_in flow.now files ≡ None }
+    ensures all_fit { OnOk result ((whole : List (List Value)) × IsMeaning flow.now (D.files depot.old) whole
+        × AllHaveRoom (gate_of found text.now) (missing_blocks batch (count_of found) whole)) }
+    ensures full { result ≡ Err (stop.Fault fault.Full) → (whole : List (List Value)) × IsMeaning flow.now (D.files depot.old) whole
+        × ((count : ℕ) × IsFullBehind (gate_of found text.now) (missing_blocks batch (count_of found) whole) count
+            × All (IsRowOf (root_columns flow.now)) (together (take count (missing_blocks batch (count_of found) whole)))
+            × (IsTrue (K.honest disk.old) → (olds : List Stored) → IsAt found (K.seen disk.old) text.now olds
+                → Holds (K.seen disk.new) text.now (with_blocks olds (take count (missing_blocks batch (count_of found) whole))) false)) }
+    ensures causes { IfFault result (RestsOn (Rose (D.faults depot.old) (D.faults depot.new)) (Rose (K.faults disk.old) (K.faults disk.new))) }
+    ensures table { (place : ℕ) → result ≢ Err (stop.Fault (fault.NotATable place)) }
+    ensures same_flow { result ≢ Err (stop.Fault fault.WorkflowDiffers) }
+
+    ensures untouched { LeavesTable result → disk.new ≡ disk.old }
+    ensures settled { Settles result → IsTrue (K.honest disk.old) → IsSettled (K.seen disk.old) (K.may_leave disk.old) → IsSettled (K.seen disk.new) (K.may_leave disk.new) }
+    // A crash at any moment of the call leaves the blocks from before, and the first of those that are missing.
+    ensures any_moment { IsTrue (K.honest disk.old) → IsSettled (K.seen disk.old) (K.may_leave disk.old)
+        → (olds : List Stored) → IsAt found (K.seen disk.old) text.now olds
+        → (disk.new ≡ disk.old) ⊎ ((whole : List (List Value)) × IsMeaning flow.now (D.files depot.old) whole
+            × Each (LeftBetween (K.clock disk.old) (K.clock disk.new) (K.left_at disk.new))
+                (IsGrown text.now (root_columns flow.now) olds (missing_blocks batch (count_of found) whole))) }
+    ensures grows { IsTrue (K.honest disk.old) → IsSettled (K.seen disk.old) (K.may_leave disk.old)
+        → (olds : List Stored) → IsAt found (K.seen disk.old) text.now olds
+        → (disk.new ≡ disk.old) ⊎ Grows text.now (K.clock disk.old) (K.clock disk.new) (K.left_at disk.new) }
+    ensures time { IsTrue (K.honest disk.old) → GoesOn (K.clock disk.old) (K.clock disk.new) (K.left_at disk.old) (K.left_at disk.new) }
+    ensures depot_later { D.faults depot.old ≤ D.faults depot.new }
+    ensures later { K.faults disk.old ≤ K.faults disk.new }
+    ensures honest { K.honest disk.new ≡ K.honest disk.old }
+{
+    let root = flow.root();
+    let mut writer = Writer::new(alloc, &root.schema)?;
+    let rows = whole_rows(alloc, flow, depot)?;
+    let before = count_of(&found);
+    // The report comes first, so that no memory is wanted once the table is ended.
+    let report = report_of(alloc, root.id, before, rows.len() as u64)?;
+    let missing = behind(rows.rows(), before);
+    match finish(alloc, disk, found, text, &root.schema, missing, batch, &mut writer) {
+        Ok(()) => Ok(report),
+        Err(stop) => Err(stop),
+    }
+}
+
+// How many rows were found.
+pub fn count_of(found: &Attached) -> u64
+    ensures { result ≡ count_of found.now }
+{
+    match found {
+        Attached::NotMade => 0,
+        Attached::Made(journal) => journal.count(),
+    }
+}
+
+/// Whether the table was ended.
+pub fn is_ended(found: &Attached) -> bool
+    ensures { result ≡ is_ended found.now }
+{
+    match found {
+        Attached::NotMade => false,
+        Attached::Made(journal) => journal.ended(),
+    }
+}
+
+// The rows behind so many, if there are more.
+fn behind(rows: &[Tuple], count: u64) -> &[Tuple]
+    ensures { result.now ≡ drop count rows.now }
+{
+    if count < rows.len() as u64 {
+        &rows[count as usize..]
+    } else {
+        &rows[rows.len()..]
+    }
+}
