@@ -1,5 +1,5 @@
 -- Chains, and schemas of whole numbers.
-use Rattle.std.proofs.Common.{◌≡◌, ℕ, zero, suc, ◌+◌, ◌-◌, ◌<◌, ◌≤◌, List, [], ◌∷◌, ◌++◌, map, take, get_or, length, slice_get, Bool, true, false, not, ◌&&◌, IsTrue, All, IfSome, refl, ap, sym, ◌∙◌, Option, Some, None, option_map, arith}
+use Rattle.std.proofs.Common.{◌≡◌, ◌-◌, List, [], ◌∷◌, ◌++◌, length, slice_get, All, IfSome, refl, sym, Option, Some, None, arith}
 use Rattle.std.proofs.lemmas.List.{length-append}
 use Rattle.flow_types.specs.declared.node.Node.{Node}
 use Rattle.flow_types.specs.Columns.{IsInt}

@@ -1,5 +1,5 @@
 -- Columns of whole numbers, and names that differ.
-use Rattle.std.proofs.Common.{◌≡◌, ℕ, zero, suc, ◌+◌, ◌-◌, ◌<◌, ◌≤◌, List, [], ◌∷◌, ◌++◌, map, take, get_or, slice_get, length, bytes_eq, Bool, true, false, not, ◌&&◌, IsTrue, All, refl, ap, sym, ◌∙◌, inl, inr, Option, Some, None, option_map, if◌then◌else◌, Ok, Err, arith}
+use Rattle.std.proofs.Common.{◌≡◌, ℕ, zero, suc, ◌<◌, ◌≤◌, List, [], ◌∷◌, map, take, get_or, length, bytes_eq, Bool, true, false, All, refl, sym, inl, inr, Option, Some, None, if◌then◌else◌, Ok, Err, arith}
 use Rattle.std.specs.List.{list_any}
 use Rattle.std.specs.Option.{option_or}
 use Rattle.std.proofs.lemmas.Bool.{cases_Bool, both_ways, cases_lt}
@@ -9,7 +9,7 @@ use Rattle.std.proofs.lemmas.List.Elements.{All-map}
 use Rattle.std.proofs.lemmas.Option.{slice_get_read}
 use Rattle.std.proofs.lemmas.Slice.Eq.{bytes_eq-Decides}
 use Rattle.tuple_schema.specs.declared.schema.Column.{Column}
-use Rattle.tuple_schema.specs.Schemas.{IsSchema, HasScale, are_distinct}
+use Rattle.tuple_schema.specs.Schemas.{IsSchema, are_distinct}
 use Rattle.workflow_file.specs.Texts.{head_of}
 use Rattle.flow_types.specs.Columns.{int_column, IsInt}
 use Rattle.expr_lang.specs.Truths.{place_of}

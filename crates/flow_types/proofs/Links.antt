@@ -1,5 +1,5 @@
 -- The inputs that nodes name, looked for one after another.
-use Rattle.std.proofs.Common.{◌≡◌, ℕ, ◌+◌, ◌<◌, ◌≤◌, List, [], ◌∷◌, ◌++◌, map, filter_map, take, get_or, length, true, false, is_some, refl, ◌∙◌, Option, Some, None, option_to_list, Ok, Err, arith}
+use Rattle.std.proofs.Common.{◌≡◌, ℕ, ◌+◌, ◌<◌, ◌≤◌, List, [], ◌∷◌, ◌++◌, map, filter_map, take, get_or, length, true, false, is_some, refl, ◌∙◌, Option, Some, option_to_list, Ok, Err, arith}
 use Rattle.std.proofs.lemmas.List.{take_more, length-map, get_or-map}
 use Rattle.tuple_schema.specs.declared.memory.Stop.{Stop}
 use Rattle.tuple_schema.specs.declared.memory.Stop.TheVariants as stop

@@ -1,8 +1,7 @@
 -- Lists that are mapped.
-use Rattle.std.proofs.Common.{◌≡◌, ℕ, ◌+◌, ◌<◌, List, [], ◌∷◌, ◌++◌, map, length, Bool, true, false, ◌||◌, cond, not, refl, ap, sym, ◌∙◌, nat_lt, Option, Some, None}
-use Rattle.std.specs.List.{list_any, position, position_or_len, prefix_len}
+use Rattle.std.proofs.Common.{◌≡◌, List, [], ◌∷◌, map, Bool, ◌||◌, not, refl, ap}
+use Rattle.std.specs.List.{list_any, position, prefix_len}
 use Rattle.std.proofs.lemmas.List.{length-map}
-use Rattle.std.proofs.lemmas.Bool.{cases_Bool}
 
 pub list_any_mapped : {X Y : Type 0} (p : Y → Bool) (f : X → Y) (xs : List X) → list_any p (map f xs) ≡ list_any (λ x. p (f x)) xs
 list_any_mapped p f [] = refl

@@ -1,6 +1,6 @@
 -- Names that are looked for one after another, in a list whose elements are seen as names.
-use Rattle.std.proofs.Common.{◌≡◌, ℕ, ◌+◌, ◌<◌, ◌≤◌, List, [], ◌∷◌, ◌++◌, map, filter_map, take, drop, get_or, length, true, false, refl, ap, sym, ◌∙◌, Option, Some, None, arith}
-use Rattle.std.proofs.lemmas.List.{take_more, drop_more, drop_all, take_all, map-append, take-map, get_or-map, length-map}
+use Rattle.std.proofs.Common.{◌≡◌, ℕ, ◌+◌, ◌<◌, ◌≤◌, List, [], ◌∷◌, ◌++◌, map, filter_map, take, drop, get_or, length, true, false, refl, sym, ◌∙◌, Option, Some, None, arith}
+use Rattle.std.proofs.lemmas.List.{take_more, drop_more, map-append, take-map, get_or-map, length-map}
 use Rattle.std.proofs.lemmas.List.Elements.{filter_map-append}
 use Rattle.workflow_file.specs.Texts.{is_among}
 use Rattle.expr_lang.specs.Truths.{place_of}

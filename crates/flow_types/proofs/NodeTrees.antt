@@ -1,12 +1,12 @@
 -- The tree of a chain: one node over the other.
-use Rattle.std.proofs.Common.{◌≡◌, ℕ, ◌-◌, ◌==◌, List, [], ◌∷◌, ◌++◌, map, fold, length, refl, ap, sym, ◌∙◌, append_assoc, Option, Some, None, option_map, arith}
+use Rattle.std.proofs.Common.{◌≡◌, ℕ, List, [], ◌∷◌, ◌++◌, map, fold, refl, ap, sym, ◌∙◌, append_assoc, Some, option_map, arith}
 use Rattle.std.proofs.lemmas.List.{append-nil}
 use Rattle.std.proofs.lemmas.Bool.{eq-eqb}
 use Rattle.flow_types.specs.declared.node.Node.{Node}
 use Rattle.flow_types.specs.Trees.{Tree, node, trees_of, in_order}
 use Rattle.flow_types.specs.NodeTrees.{number_of, numbers_of, tree_at, with_tree, listed_trees, last_tree, tree_of}
 use Rattle.flow_types.specs.Typed.{last_of}
-use Rattle.flow_types.specs.Chain.{IsNode, IsChainFrom, IsChain}
+use Rattle.flow_types.specs.Chain.{IsChainFrom, IsChain}
 use Rattle.flow_types.proofs.Chains.{behind, last_behind}
 
 -- the tree that is listed next, over the one listed last

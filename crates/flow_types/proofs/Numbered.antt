@@ -1,6 +1,6 @@
 -- Names that are numbered in order, and the places that they are found at.
-use Rattle.std.proofs.Common.{◌≡◌, ℕ, zero, suc, ◌+◌, ◌<◌, ◌≤◌, List, [], ◌∷◌, ◌++◌, map, take, get_or, length, Bool, true, false, ◌||◌, cond, is_some, IfSome, refl, ap, sym, ◌∙◌, inl, inr, Option, Some, None, bytes_eq, arith}
-use Rattle.std.specs.List.{list_any, position, position_from, position_or_len, range_with_len}
+use Rattle.std.proofs.Common.{◌≡◌, ℕ, zero, suc, ◌+◌, ◌<◌, List, [], ◌∷◌, ◌++◌, map, take, get_or, length, false, is_some, IfSome, refl, ap, sym, ◌∙◌, inl, inr, Option, Some, None, bytes_eq, arith}
+use Rattle.std.specs.List.{position_from, position_or_len, range_with_len}
 use Rattle.std.specs.Map.{keys_of, values_of, lookup}
 use Rattle.std.proofs.lemmas.Bool.{cases_Bool, cases_lt, lt-ltb, le-ltb}
 use Rattle.std.proofs.lemmas.List.{map-append, take_more}

@@ -1,5 +1,5 @@
 -- The input of a selection or a projection.
-use Rattle.std.proofs.Common.{◌≡◌, ℕ, zero, suc, ◌+◌, ◌-◌, ◌<◌, ◌≤◌, List, [], ◌∷◌, ◌++◌, length, map, filter_map, get_or, codes, bytes_eq, Bool, true, false, ◌&&◌, ◌||◌, is_some, is_none, IsTrue, refl, ap, sym, ◌∙◌, ◌⊎◌, inl, inr, Option, Some, None, option_to_list, arith}
+use Rattle.std.proofs.Common.{◌≡◌, ℕ, zero, suc, ◌+◌, ◌<◌, ◌≤◌, List, [], ◌∷◌, length, map, filter_map, get_or, codes, bytes_eq, Bool, true, false, is_some, is_none, refl, ap, sym, ◌∙◌, ◌⊎◌, inl, inr, Option, Some, None, option_to_list, arith}
 use Rattle.std.specs.List.{list_all}
 use Rattle.std.proofs.lemmas.Bool.{and_parts, or_cases, cases_Bool, both_ways}
 use Rattle.std.proofs.lemmas.List.Folds.{list_all_at}

@@ -1,11 +1,11 @@
 -- The typed nodes of a tree, from those of its input.
-use Rattle.std.proofs.Common.{◌≡◌, ℕ, ◌+◌, ◌-◌, ◌<◌, ◌≤◌, List, [], ◌∷◌, ◌++◌, length, filter_map, flat_map, get_or, slice_get, refl, ap, sym, ◌∙◌, Option, Some, None, option_to_list, Result, Ok, Err, arith}
+use Rattle.std.proofs.Common.{◌≡◌, ℕ, ◌-◌, ◌<◌, ◌≤◌, List, [], ◌∷◌, length, filter_map, get_or, slice_get, refl, Option, Some, None, option_to_list, Ok}
 use Rattle.std.specs.List.{cons_option}
 use Rattle.std.proofs.lemmas.List.{append-nil}
 use Rattle.std.proofs.lemmas.Option.{slice_get_read, slice_get_past}
 use Rattle.tuple_schema.specs.declared.memory.Stop.{Stop}
 use Rattle.tuple_schema.specs.declared.memory.Stop.TheVariants as stop
-use Rattle.tuple_schema.specs.Stops.{◌>>=◌, Fails}
+use Rattle.tuple_schema.specs.Stops.{Fails}
 use Rattle.workflow_file.specs.declared.raw.RawSource.{RawSource}
 use Rattle.workflow_file.specs.declared.raw.RawNode.{RawNode}
 use Rattle.workflow_file.specs.declared.raw.RawFlow.{RawFlow}

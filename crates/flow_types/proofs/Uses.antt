@@ -1,9 +1,9 @@
 -- How often a node is an input.
-use Rattle.std.proofs.Common.{◌≡◌, ◌<◌, ◌≤◌, false, nat_lt, Ok, Err, ℕ, zero, suc, ◌+◌, ◌==◌, List, [], ◌∷◌, ◌++◌, count_by, cond, refl, ap, sym, ◌∙◌, length, map, take, get_or, slice_set, inl, inr, Option, Some, None, option_to_list, arith}
+use Rattle.std.proofs.Common.{◌≡◌, ◌<◌, ◌≤◌, false, nat_lt, Ok, Err, ℕ, ◌+◌, ◌==◌, List, [], ◌∷◌, ◌++◌, count_by, cond, refl, ap, sym, ◌∙◌, length, take, get_or, slice_set, inl, inr, Option, Some, None, option_to_list, arith}
 use Rattle.std.specs.List.{concat}
 use Rattle.std.proofs.lemmas.List.Sums.{sum_by-append, count_by-le-length}
 use Rattle.std.proofs.lemmas.List.Folds.{concat-append}
-use Rattle.std.proofs.lemmas.List.{length-map, map-append, append-nil, take_more, length-append, length-take-le, get_or-set_other, get_or_default}
+use Rattle.std.proofs.lemmas.List.{length-map, map-append, append-nil, take_more, length-take-le, get_or-set_other, get_or_default}
 use Rattle.std.proofs.lemmas.Grind.{get_or-set_at}
 use Rattle.std.proofs.lemmas.Bool.{lt-ltb, le-ltb}
 use Rattle.std.proofs.lemmas.Bool.Decides.{eqb_tells}

@@ -1,5 +1,5 @@
 -- Which flows are built at this stage.
-use Rattle.std.specs.Prelude.{ℕ, List, codes, bytes_eq, Bool, true, false, ◌&&◌, ◌||◌, is_some, is_none, Option, Some, None, option_and_then}
+use Rattle.std.specs.Prelude.{ℕ, List, codes, bytes_eq, Bool, true, ◌&&◌, ◌||◌, is_some, is_none, Option, Some, None, option_and_then}
 use Rattle.std.specs.List.{list_all}
 use Rattle.workflow_file.specs.declared.raw.RawSource.{RawSource}
 use Rattle.workflow_file.specs.declared.raw.RawNode.{RawNode}

@@ -1,7 +1,7 @@
 -- What holds of the nodes of a flow: a source, and then selections and projections, each over the one before it.
-use Rattle.std.specs.Prelude.{◌≡◌, ◌≤◌, ◌<◌, ℕ, List, [], ◌∷◌, length, map, All, IsTrue, IsSome, ⊤, Option, Some, None}
+use Rattle.std.specs.Prelude.{◌≡◌, ◌≤◌, ◌<◌, ℕ, List, [], ◌∷◌, length, All, IsSome, ⊤, Option, Some, None}
 use Rattle.tuple_schema.specs.declared.schema.Column.{Column}
-use Rattle.tuple_schema.specs.Schemas.{IsSchema, are_distinct}
+use Rattle.tuple_schema.specs.Schemas.{IsSchema}
 use Rattle.flow_types.specs.Columns.{IsInt}
 use Rattle.expr_lang.specs.Truths.{place_of}
 use Rattle.flow_types.specs.declared.node.Kind.{Kind}

@@ -1,5 +1,5 @@
 -- A flow as a graph: its nodes by place, sources first, the inputs of each, and what may be wrong with these.
-use Rattle.std.specs.Prelude.{ℕ, ◌-◌, ◌==◌, ◌<◌, All, IfSome, List, [], ◌∷◌, ◌++◌, length, map, filter_map, flat_map, get_or, count_by, Bool, false, not, is_some, nat_lt, Option, Some, None, option_map, option_and_then, option_to_list, unwrap_or, Result, Ok, Err}
+use Rattle.std.specs.Prelude.{ℕ, ◌-◌, ◌==◌, ◌<◌, All, IfSome, List, [], ◌∷◌, ◌++◌, length, map, filter_map, get_or, count_by, Bool, not, is_some, nat_lt, Option, Some, None, option_map, option_and_then, option_to_list, unwrap_or, Result, Ok, Err}
 use Rattle.std.specs.List.{concat, list_any}
 use Rattle.tuple_schema.specs.Stops.{◌>>=◌}
 use Rattle.workflow_file.specs.declared.raw.RawNode.{RawNode}

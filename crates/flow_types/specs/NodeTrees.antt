@@ -1,7 +1,7 @@
 -- The tree of a typed flow: each node, by its number, over the trees of its inputs.
 use Rattle.std.specs.Prelude.{ℕ, ◌==◌, List, [], ◌∷◌, map, fold, if◌then◌else◌}
 use Rattle.flow_types.specs.declared.node.Node.{Node}
-use Rattle.flow_types.specs.Trees.{Tree, node, Trees, no_trees, trees_of}
+use Rattle.flow_types.specs.Trees.{Tree, node, no_trees, trees_of}
 
 -- the number of a tree's node
 abbrev pub number_of : Tree → ℕ

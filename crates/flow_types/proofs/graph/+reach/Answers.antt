@@ -1,4 +1,4 @@
-use Rattle.std.proofs.Common.{◌≡◌, ◌<◌, length, arith}
+use Rattle.std.proofs.Common.{◌<◌, length}
 use Rattle.flow_types.specs.Graph.{links_in}
 use Rattle.flow_types.proofs.Reached.{marked_leaf, marked_over}
 use Rattle.flow_types.proofs.graph.+reach.Goals as goal

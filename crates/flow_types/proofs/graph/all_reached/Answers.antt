@@ -1,4 +1,4 @@
-use Rattle.std.proofs.Common.{◌≡◌, ◌<◌, ◌≤◌, ◌∙◌, sym, length, get_or, true, false, arith}
+use Rattle.std.proofs.Common.{◌≡◌, ◌<◌, ◌∙◌, sym, length, get_or, false, arith}
 use Rattle.std.proofs.lemmas.List.{get_or_default}
 use Rattle.flow_types.proofs.Reached.{not_reached, reaches_all}
 use Rattle.flow_types.proofs.graph.all_reached.Goals as goal

@@ -1,4 +1,4 @@
-use Rattle.std.proofs.Common.{◌≡◌, ◌+◌, ◌-◌, sym, ap, ◌∙◌, length, option_to_list, arith}
+use Rattle.std.proofs.Common.{◌-◌, sym, length, arith}
 use Rattle.flow_types.proofs.OneInput.{needs_source, needs_past, needs_node}
 use Rattle.flow_types.proofs.graph.input_of.Goals as goal
 

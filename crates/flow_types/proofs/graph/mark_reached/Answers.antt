@@ -1,6 +1,5 @@
-use Rattle.std.proofs.Common.{◌≡◌, ◌<◌, ℕ, ◌∙◌, sym, ap, length, get_or, false, arith, refl}
+use Rattle.std.proofs.Common.{◌≡◌, ◌<◌, ℕ, sym, length, get_or, false, arith}
 use Rattle.std.proofs.lemmas.List.{get_or-replicate}
-use Rattle.flow_types.specs.Graph.{is_in, links_in}
 use Rattle.flow_types.proofs.Reached.{marks_are, refilled, flow_tree_is}
 use Rattle.flow_types.proofs.graph.mark_reached.Goals as goal
 

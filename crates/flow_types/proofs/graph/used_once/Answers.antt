@@ -1,4 +1,4 @@
-use Rattle.std.proofs.Common.{◌≡◌, ◌<◌, ◌≤◌, ℕ, ◌∙◌, sym, length, get_or, arith}
+use Rattle.std.proofs.Common.{◌≡◌, ◌<◌, ◌∙◌, length, arith}
 use Rattle.std.proofs.lemmas.List.{get_or_default}
 use Rattle.flow_types.specs.Graph.{links_in, uses_of}
 use Rattle.flow_types.proofs.Uses.{once, used_twice, used_by_one}

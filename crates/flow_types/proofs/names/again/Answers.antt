@@ -1,4 +1,4 @@
-use Rattle.std.proofs.Common.{◌≡◌, sym, ◌∙◌, below_more, arith}
+use Rattle.std.proofs.Common.{sym, ◌∙◌, below_more, arith}
 use Rattle.flow_types.proofs.Lookups.{again_here, again_is, again_none}
 use Rattle.flow_types.proofs.names.again.Goals as goal
 

@@ -1,4 +1,4 @@
-use Rattle.std.proofs.Common.{◌≡◌, map, sym, ◌∙◌}
+use Rattle.std.proofs.Common.{map, sym, ◌∙◌}
 use Rattle.flow_types.proofs.Lookups.{found_more, known_more}
 use Rattle.flow_types.proofs.names.places_of.Goals as goal
 

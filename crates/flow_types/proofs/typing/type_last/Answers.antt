@@ -1,4 +1,3 @@
-use Rattle.std.proofs.Common.{◌≡◌}
 use Rattle.flow_types.proofs.Chains.{chain_grown, last_ints}
 use Rattle.flow_types.proofs.typing.type_last.Goals as goal
 

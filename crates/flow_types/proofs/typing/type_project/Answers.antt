@@ -1,4 +1,3 @@
-use Rattle.std.proofs.Common.{◌≡◌, arith}
 use Rattle.flow_types.proofs.Columns.{ints_schema}
 use Rattle.flow_types.proofs.typing.type_project.Goals as goal
 

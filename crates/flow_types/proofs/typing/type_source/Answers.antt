@@ -1,5 +1,3 @@
-use Rattle.std.proofs.Common.{◌≡◌}
-use Rattle.flow_types.specs.Names.{names_in}
 use Rattle.flow_types.proofs.Columns.{text_schema, text_ints}
 use Rattle.flow_types.proofs.typing.type_source.Goals as goal
 

@@ -1,4 +1,4 @@
-use Rattle.std.proofs.Common.{◌≡◌, ◌++◌, ◌∷◌, [], sym, ap, ◌∙◌, is_some, true, false, None, below_more, take, map, refl, arith}
+use Rattle.std.proofs.Common.{◌≡◌, sym, ◌∙◌, is_some, true, false, below_more, take, map, refl, arith}
 use Rattle.workflow_file.specs.Texts.{is_among}
 use Rattle.indexmap.proofs.CallerLemmas.{insert_entry-new}
 use Rattle.flow_types.proofs.Lookups.{again_here, again_is, again_none}

@@ -1,5 +1,3 @@
-use Rattle.std.proofs.Common.{◌≡◌, ◌∙◌, sym, map}
-use Rattle.expr_lang.specs.Truths.{place_of}
 use Rattle.flow_types.proofs.Numbered.{numbered_is, place_within}
 use Rattle.flow_types.proofs.named.Places.place.Goals as goal
 
