@@ -10,3 +10,4 @@ pub mod TypedTrees
 pub mod Chains
 pub mod Columns
 pub mod NodeTrees
+pub mod FlowTrees

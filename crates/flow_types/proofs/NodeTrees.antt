@@ -38,6 +38,13 @@ unfolding behind
 root_from before tree others [] is = ap Some (sym is)
 root_from before tree others (n ∷ nodes) is = root_from n (next_tree (tree ∷ others) n) (tree ∷ others) nodes refl
 
+pub root_is : (nodes : List Node) (m : Node) → last_of nodes ≡ Some m → number_of (tree_of nodes) ≡ m.id.0
+unfolding listed_trees behind
+root_is [] m is = absurd (cc)
+root_is (n ∷ nodes) m is =
+    let last : Some m.id.0 ≡ Some (number_of (tree_of (n ∷ nodes))) = ap (option_map (λ k. k.id.0)) (sym is ∙ last_behind (n ∷ nodes)) ∙ root_from n (next_tree [] n) [] nodes refl in
+    cc
+
 pub root_of_chain : (nodes : List Node) → IsChain nodes → option_map (λ n. n.id.0) (last_of nodes) ≡ Some (number_of (tree_of nodes))
 unfolding listed_trees behind
 root_of_chain [] chain = let some = chain.some in absurd (omega arith)

@@ -1,11 +1,11 @@
 //! Typed flows: names looked up, the columns of each node found, or the first fault in them.
 //!
-//! Stands on `workflow_file`, whose raw flows it types, and on `expr_lang`; `kind_laws` gives the nodes
-//! their meaning. Read `specs/Graph.antt` first, how nodes are named and reached, then
-//! `specs/Typed.antt`, their columns and the order of faults, and `specs/Chain.antt`, what each flow is.
-//!
-//! Built at this stage are sequences of whole numbers, selections and projections: `is_built`.
-//! Promised: `type_flow` answers the typed flow or its first fault; every `Flow` is a chain from a source.
+//! Stands on `workflow_file`, whose raw flows it types, on `expr_lang`, and on `indexmap`, which numbers the
+//! names; `kind_laws` gives the nodes their meaning. Read `specs/Graph.antt` first, how nodes are named and
+//! reached, then `specs/Typed.antt`, their columns and the order of faults, `specs/Chain.antt`, what each flow
+//! is, and `specs/NodeTrees.antt`, its tree. Built at this stage are sequences of whole numbers, selections and
+//! projections: `is_built`. Promised: `type_flow` answers the typed flow or its first fault; every `Flow` is a
+//! chain from a source; `tree_laws`: its tree has its nodes, and is the one that the names in the file make.
 //! Not promised: that memory is found.
 #![tactic(auto)]
 
