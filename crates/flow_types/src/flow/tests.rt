@@ -14,16 +14,21 @@ type Row = (
 );
 
 // The text of a flow file.
-fn flow_text(alloc: Global, row: &Row) -> Result<String, Fail> {
-    let mut text = format!(in alloc; "table={{input='{}'}}\nsource=[", row.0)?;
-    for (name, columns) in row.1 {
+fn flow_text(
+    alloc: Global,
+    root: &str,
+    sources: &[(&str, &str)],
+    nodes: &[(&str, &str, &str)],
+) -> Result<String, Fail> {
+    let mut text = format!(in alloc; "table={{input='{}'}}\nsource=[", root)?;
+    for (name, columns) in sources {
         let source = format!(in alloc;
             "{{name='{name}',file='{name}.csv',columns=[{columns}],promise='seq'}},"
         )?;
         text.push_str(source.as_str())?;
     }
     text.push_str("]\nnode=[")?;
-    for (name, input, what) in row.2 {
+    for (name, input, what) in nodes {
         let rest = if what.starts_with('\'') {
             format!(in alloc; "kind='project',columns=[{what}]")?
         } else {
@@ -148,10 +153,10 @@ const TYPED: [Row; 11] = [
 
 #[test]
 fn flows_are_typed_from_the_source_on(rt: HostRuntime) -> Result<(), Fail> {
-    for row in &TYPED {
-        let text = flow_text(rt.alloc(), row)?;
+    for (root, sources, nodes, want) in &TYPED {
+        let text = flow_text(rt.alloc(), root, sources, nodes)?;
         let got = answer(rt.alloc(), text.as_bytes())?;
-        assert_eq!(rt; got.as_str(), row.3, "for {}", text.as_str());
+        assert_eq!(rt; got.as_str(), *want, "for {}", text.as_str());
     }
     Ok(())
 }
@@ -348,10 +353,10 @@ const NAMES: [Row; 27] = [
 
 #[test]
 fn names_have_to_fit_together(rt: HostRuntime) -> Result<(), Fail> {
-    for row in &NAMES {
-        let text = flow_text(rt.alloc(), row)?;
+    for (root, sources, nodes, want) in &NAMES {
+        let text = flow_text(rt.alloc(), root, sources, nodes)?;
         let got = answer(rt.alloc(), text.as_bytes())?;
-        assert_eq!(rt; got.as_str(), row.3, "for {}", text.as_str());
+        assert_eq!(rt; got.as_str(), *want, "for {}", text.as_str());
     }
     Ok(())
 }
@@ -431,10 +436,10 @@ const COLUMNS: [Row; 15] = [
 
 #[test]
 fn columns_have_to_be_there_once(rt: HostRuntime) -> Result<(), Fail> {
-    for row in &COLUMNS {
-        let text = flow_text(rt.alloc(), row)?;
+    for (root, sources, nodes, want) in &COLUMNS {
+        let text = flow_text(rt.alloc(), root, sources, nodes)?;
         let got = answer(rt.alloc(), text.as_bytes())?;
-        assert_eq!(rt; got.as_str(), row.3, "for {}", text.as_str());
+        assert_eq!(rt; got.as_str(), *want, "for {}", text.as_str());
     }
     Ok(())
 }
@@ -549,10 +554,10 @@ const ORDERS: [Row; 17] = [
 
 #[test]
 fn the_first_of_two_faults_is_told(rt: HostRuntime) -> Result<(), Fail> {
-    for row in &ORDERS {
-        let text = flow_text(rt.alloc(), row)?;
+    for (root, sources, nodes, want) in &ORDERS {
+        let text = flow_text(rt.alloc(), root, sources, nodes)?;
         let got = answer(rt.alloc(), text.as_bytes())?;
-        assert_eq!(rt; got.as_str(), row.3, "for {}", text.as_str());
+        assert_eq!(rt; got.as_str(), *want, "for {}", text.as_str());
     }
     Ok(())
 }
