@@ -1,5 +1,5 @@
 -- The tree of a typed flow is the tree that the names in it make.
-use Rattle.std.proofs.Common.{◌≡◌, ℕ, zero, suc, ◌+◌, ◌-◌, ◌<◌, ◌≤◌, ◌==◌, List, [], ◌∷◌, ◌++◌, map, fold, filter_map, get_or, slice_get, length, Bool, true, false, bytes_eq, codes, if◌then◌else◌, refl, ap, sym, ◌∙◌, inl, inr, Option, Some, None, option_map, option_and_then, option_to_list, ◌⊎◌, IsTrue, Result, Ok, Err, arith, sub-one}
+use Rattle.std.proofs.Common.{◌≡◌, ℕ, zero, suc, ◌+◌, ◌-◌, ◌<◌, ◌≤◌, List, [], ◌∷◌, ◌++◌, fold, filter_map, get_or, slice_get, length, true, bytes_eq, codes, refl, ap, sym, ◌∙◌, inl, inr, Option, Some, None, option_and_then, option_to_list, ◌⊎◌, IsTrue, Result, Ok, Err, arith, sub-one}
 use Rattle.std.proofs.lemmas.Bool.{cases_Bool, cases_lt, eq-eqb}
 use Rattle.std.proofs.lemmas.List.{get_or-map, get_or_past, length-map}
 use Rattle.std.proofs.lemmas.Option.{slice_get_past}
@@ -15,10 +15,10 @@ use Rattle.flow_types.specs.declared.fault.SchemaCause.{SchemaCause}
 use Rattle.flow_types.specs.declared.fault.SchemaFault.{SchemaFault}
 use Rattle.flow_types.specs.declared.fault.NodeId.{NodeId}
 use Rattle.flow_types.specs.declared.node.Node.{Node}
-use Rattle.flow_types.specs.Trees.{Tree, node, tree_below, inputs_below}
+use Rattle.flow_types.specs.Trees.{Tree, tree_below, inputs_below}
 use Rattle.flow_types.specs.Built.{is_built}
 use Rattle.flow_types.specs.Graph.{id_of, names_of, needs_of, links_of, names_differ, inputs_exist, root_at, used_once, all_reached, flow_tree, graph_of}
-use Rattle.flow_types.specs.Typed.{typed_source, typed_select, typed_project, typed_over, typed_at, typed_node, at_node, last_of, typed_last, typed_tree, typed}
+use Rattle.flow_types.specs.Typed.{typed_select, typed_project, typed_over, typed_at, typed_node, last_of, typed_last, typed_tree, typed}
 use Rattle.flow_types.specs.NodeTrees.{number_of, tree_at, with_tree, listed_trees, last_tree, tree_of}
 use Rattle.flow_types.proofs.Reached.{tree_split}
 use Rattle.flow_types.proofs.TypedTrees.{typed_leaf, typed_above}
