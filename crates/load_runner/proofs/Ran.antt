@@ -55,8 +55,8 @@ module _ {D : Type 0} (seen : D → List ℕ) (may_leave : D → List ℕ → Ty
   still_left was is Fact same each =
       let Claim : D → Type 0 = λ d. Each (LeftBetween (clock was) (clock d) (left_at d)) Fact in
       let here : Claim was = λ image it.
-          let at_now : it.0 ≡ clock was = omega (arith, it.1, it.2) in
-          each image (subst (λ (moment : ℕ). left_at was moment image) at_now it.3) in
+      let at_now : it.0 ≡ clock was = omega (arith, it.1, it.2) in
+      each image (subst (λ (moment : ℕ). left_at was moment image) at_now it.3) in
       subst Claim (sym same) here
 
   pub still_grows : (text : List ℕ) (was is : D) → is ≡ was → Grows text (clock was) (clock was) (left_at was) → Grows text (clock was) (clock is) (left_at is)
@@ -74,7 +74,7 @@ module _ {D : Type 0} (seen : D → List ℕ) (may_leave : D → List ℕ → Ty
     pub unended : is_ended found ≡ false
     pub moments : (olds : List Stored) → IsAt found (seen mid) text olds
         → (new ≡ mid) ⊎ ((whole : List (List Value)) × IsMeaning nodes told whole
-            × Each (LeftBetween (clock mid) (clock new) (left_at new)) (IsGrown text columns olds (missing_blocks batch (count_of found) whole)))
+        × Each (LeftBetween (clock mid) (clock new) (left_at new)) (IsGrown text columns olds (missing_blocks batch (count_of found) whole)))
     pub grows : (olds : List Stored) → IsAt found (seen mid) text olds → (new ≡ mid) ⊎ Grows text (clock mid) (clock new) (left_at new)
 
   module _ (agree : VerdictsAgree) (once : HoldsOnce) (law : BlocksHold) (text : List ℕ) (columns : List Column) (nodes : List Node) (told : Option Files) (batch : ℕ) (found : Attached) (old mid new : D)
@@ -117,21 +117,21 @@ module _ {D : Type 0} (seen : D → List ℕ) (may_leave : D → List ℕ → Ty
         over_both (IsSafe text columns whole acknowledged) (clock old) (clock mid) (clock new) (left_at mid) (left_at new) ran.time
         (λ image it. each image (ran.nothing.each image it))
         (elim (ran.moments start.olds (start.at ran.unended)) [
-            | inl same ↦ still_left mid new (IsSafe text columns whole acknowledged) same (between (IsSafe text columns whole acknowledged) safe)
-            | inr (other, meaning, grown) ↦ λ image it.
-                let same_whole : other ≡ whole = let e : Some other ≡ Some whole = sym (meaning files are) ∙ means in cc in
-                let blocks = missing_blocks batch (count_of found) other in
-                let has = grown_rows law image text columns start.olds start.committed blocks start.decodes (grown image it) in
-                let missing : drop (length start.committed) whole ≡ together blocks =
-                ap (λ n. drop n whole) (sym start.count) ∙ ap (drop (count_of found)) (sym same_whole) ∙ (cuts batch (drop (count_of found) other) some).whole in
-                record {
-                  rows = start.committed ++ together (take has.count blocks);
-                  ended = has.ended;
-                  holds = has.holds;
-                  begins = begins_both acknowledged start.committed _ begins (begins_longer start.committed (together (take has.count blocks)));
-                  stands = front_stands whole start.committed blocks has.count has.ended stands missing has.all;
-                }
-          ])
+          | inl same ↦ still_left mid new (IsSafe text columns whole acknowledged) same (between (IsSafe text columns whole acknowledged) safe)
+          | inr (other, meaning, grown) ↦ λ image it.
+              let same_whole : other ≡ whole = let e : Some other ≡ Some whole = sym (meaning files are) ∙ means in cc in
+              let blocks = missing_blocks batch (count_of found) other in
+              let has = grown_rows law image text columns start.olds start.committed blocks start.decodes (grown image it) in
+              let missing : drop (length start.committed) whole ≡ together blocks =
+              ap (λ n. drop n whole) (sym start.count) ∙ ap (drop (count_of found)) (sym same_whole) ∙ (cuts batch (drop (count_of found) other) some).whole in
+              record {
+                rows = start.committed ++ together (take has.count blocks);
+                ended = has.ended;
+                holds = has.holds;
+                begins = begins_both acknowledged start.committed _ begins (begins_longer start.committed (together (take has.count blocks)));
+                stands = front_stands whole start.committed blocks has.count has.ended stands missing has.all;
+              }
+        ])
 
     pub grows_all : StillFirst → StillEnded → may_leave old (seen old) → Each (may_leave old) (HoldsFirst text columns [])
         → TableGrows text columns (clock old) (clock new) (left_at new)
@@ -140,17 +140,17 @@ module _ {D : Type 0} (seen : D → List ℕ) (may_leave : D → List ℕ → Ty
         let one = grows_still text (clock old) (clock mid) (left_at mid) (may_leave old) ran.nothing in
         let here : Grows text (clock mid) (clock mid) (left_at mid) = record { keeps = λ u v from le to image it. one.keeps u v (omega (arith, ran.began.later, from)) le to image it } in
         let two : Grows text (clock mid) (clock new) (left_at new) = elim (ran.grows start.olds (start.at ran.unended)) [
-            | inl same ↦ still_grows text mid new same here
-            | inr grows ↦ grows
-          ] in
+          | inl same ↦ still_grows text mid new same here
+          | inr grows ↦ grows
+        ] in
         let both = grows_both text (clock old) (clock mid) (clock new) (left_at mid) (left_at new) ran.began.later ran.time one two in
         in_rows still ended text columns (clock old) (clock new) (left_at new) both (kept_all reads [] each)
 
     -- each image is one from before, or has grown
     pub adds_all : (committed : List (List Value)) (was_ended : Bool) → HoldsRows (seen old) text columns committed was_ended
         → Each (LeftBetween (clock old) (clock new) (left_at new)) (may_leave old)
-            ⊎ ((was_ended ≡ false) × ((whole : List (List Value)) × IsMeaning nodes told whole
-                × Each (LeftBetween (clock old) (clock new) (left_at new)) (λ image. may_leave old image ⊎ HasGrown text columns committed (missing_blocks batch (length committed) whole) image)))
+        ⊎ ((was_ended ≡ false) × ((whole : List (List Value)) × IsMeaning nodes told whole
+        × Each (LeftBetween (clock old) (clock new) (left_at new)) (λ image. may_leave old image ⊎ HasGrown text columns committed (missing_blocks batch (length committed) whole) image)))
     unfolding start
     adds_all committed was_ended holds =
         let holds_mid = subst (λ (image : List ℕ). HoldsRows image text columns committed was_ended) (sym ran.same) holds in
@@ -158,14 +158,20 @@ module _ {D : Type 0} (seen : D → List ℕ) (may_leave : D → List ℕ → Ty
         elim (ran.moments start.olds (start.at ran.unended)) [
           | inl same ↦ inl (over_both (may_leave old) (clock old) (clock mid) (clock new) (left_at mid) (left_at new) ran.time ran.nothing.each
               (still_left mid new (may_leave old) same (λ image it. ran.nothing.each image (clock mid, ran.began.later, omega arith, it))))
-          | inr (whole, meaning, grown) ↦ inr (sym same_rows.1 ∙ ran.unended, (whole, meaning,
+          | inr (whole, meaning, grown) ↦ inr (
+            sym same_rows.1 ∙ ran.unended,
+            (
+              whole,
+              meaning,
               over_both (λ image. may_leave old image ⊎ HasGrown text columns committed (missing_blocks batch (length committed) whole) image) (clock old) (clock mid) (clock new) (left_at mid) (left_at new) ran.time
-              (λ image it. inl (ran.nothing.each image it))
-              (λ image it. inr (record {
-                  olds = start.olds;
-                  decodes = start.decodes ∙ ap Ok same_rows.0;
-                  grown = subst (λ (n : ℕ). IsGrown text columns start.olds (missing_blocks batch n whole) image) (start.count ∙ ap length same_rows.0) (grown image it);
-                }))))
+                  (λ image it. inl (ran.nothing.each image it))
+                  (λ image it. inr (record {
+                    olds = start.olds;
+                    decodes = start.decodes ∙ ap Ok same_rows.0;
+                    grown = subst (λ (n : ℕ). IsGrown text columns start.olds (missing_blocks batch n whole) image) (start.count ∙ ap length same_rows.0) (grown image it);
+                  })),
+            ),
+          )
         ]
 
     -- the rows that were found are those that stood
@@ -201,8 +207,8 @@ module _ {D : Type 0} (seen : D → List ℕ) (may_leave : D → List ℕ → Ty
         → All (IsRowOf columns) (together (take count (missing_blocks batch (count_of found) whole)))
         → ((olds : List Stored) → IsAt found (seen mid) text olds → Holds (seen new) text (with_blocks olds (take count (missing_blocks batch (count_of found) whole))) false)
         → (olds : List Stored) × (gate : ℕ) × (table_rows columns (16 + length text) olds ≡ Ok committed) × IsNextGate (seen old) text olds gate
-            × IsFullBehind gate (missing_blocks batch (length committed) whole) count
-            × HoldsRows (seen new) text columns (committed ++ together (take count (missing_blocks batch (length committed) whole))) false
+        × IsFullBehind gate (missing_blocks batch (length committed) whole) count
+        × HoldsRows (seen new) text columns (committed ++ together (take count (missing_blocks batch (length committed) whole))) false
     unfolding start
     filled committed was_ended holds whole count full of_columns added =
         let same = were committed was_ended holds in
@@ -210,16 +216,20 @@ module _ {D : Type 0} (seen : D → List ℕ) (may_leave : D → List ℕ → Ty
         let held = law (seen new) text columns start.olds (take count (missing_blocks batch (count_of found) whole)) start.committed false start.decodes (added start.olds (start.at ran.unended)) of_columns in
         let gate = subst (λ (image : List ℕ). IsNextGate image text start.olds (gate_of found text)) ran.same (start.next ran.unended) in
         let are : start.committed ++ together (take count (missing_blocks batch (count_of found) whole)) ≡ committed ++ together (take count (missing_blocks batch (length committed) whole)) =
-        ap (λ rs. rs ++ together (take count (missing_blocks batch (count_of found) whole))) same.0 ∙ ap (λ n. committed ++ together (take count (missing_blocks batch n whole))) number in
-        (start.olds, gate_of found text, start.decodes ∙ ap Ok same.0, gate,
-            subst (λ (n : ℕ). IsFullBehind (gate_of found text) (missing_blocks batch n whole) count) number full,
-            subst (λ (rs : List (List Value)). HoldsRows (seen new) text columns rs false) are held)
+        ap (λ rs. rs ++ together (take count (missing_blocks batch (count_of found) whole))) same.0 ∙ ap (λ n. committed ++ together (take count (missing_blocks batch n whole))) number in (
+          start.olds,
+          gate_of found text,
+          start.decodes ∙ ap Ok same.0,
+          gate,
+          subst (λ (n : ℕ). IsFullBehind (gate_of found text) (missing_blocks batch n whole) count) number full,
+          subst (λ (rs : List (List Value)). HoldsRows (seen new) text columns rs false) are held,
+        )
 
     -- where all blocks have room
     pub has_room : (committed : List (List Value)) → HoldsRows (seen old) text columns committed false
         → (whole : List (List Value)) → AllHaveRoom (gate_of found text) (missing_blocks batch (count_of found) whole)
         → (olds : List Stored) × (gate : ℕ) × (table_rows columns (16 + length text) olds ≡ Ok committed) × IsNextGate (seen old) text olds gate
-            × AllHaveRoom gate (missing_blocks batch (length committed) whole)
+        × AllHaveRoom gate (missing_blocks batch (length committed) whole)
     unfolding start
     has_room committed holds whole room =
         let same = were committed false holds in

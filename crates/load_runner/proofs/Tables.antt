@@ -64,13 +64,16 @@ journal_of text blocks ended = record { first = 16 + length text; gate = length 
 -- a table is attached
 pub made_tells : (image text : List ℕ) (blocks : List Stored) (ended : Bool) → Holds image text blocks ended → (journal : JournalState) × TellsOf journal image text
 unfolding journal_of
-made_tells image text blocks ended holds = (journal_of text blocks ended, record {
-  blocks = blocks;
-  holds = record { holds = holds; at = refl };
-  first = refl;
-  counts = refl;
-  sound = refl;
-})
+made_tells image text blocks ended holds = (
+  journal_of text blocks ended,
+  record {
+    blocks = blocks;
+    holds = record { holds = holds; at = refl };
+    first = refl;
+    counts = refl;
+    sound = refl;
+  },
+)
 
 module _ (agree : VerdictsAgree) (once : HoldsOnce) where
   -- what is a table isn't one that isn't made

@@ -57,7 +57,7 @@ pub fn finish<K: Disk>(
     ensures full { result ≡ Err (stop.Fault fault.Full) → (count : ℕ) × IsFullBehind (gate_of found text.now) (cut batch rows.now) count
         × All (IsRowOf schema.now) (together (take count (cut batch rows.now)))
         × (IsTrue (K.honest disk.old) → (olds : List Stored) → IsAt found (K.seen disk.old) text.now olds
-            → Holds (K.seen disk.new) text.now (with_blocks olds (take count (cut batch rows.now))) false) }
+        → Holds (K.seen disk.new) text.now (with_blocks olds (take count (cut batch rows.now))) false) }
     ensures full_settled { result ≡ Err (stop.Fault fault.Full) → IsTrue (K.honest disk.old) → IsSettled (K.seen disk.old) (K.may_leave disk.old)
         → IsSettled (K.seen disk.new) (K.may_leave disk.new) }
     ensures causes { IfFault result (IsWriteFault (Rose (K.faults disk.old) (K.faults disk.new))) }
@@ -110,7 +110,7 @@ fn append<K: Disk>(
     ensures full { result ≡ Err (stop.Fault fault.Full) → (count : ℕ) × IsFullBehind journal.gate (cut batch rows.now) count
         × All (IsRowOf schema.now) (together (take count (cut batch rows.now)))
         × (IsTrue (K.honest disk.old) → (text : List ℕ) (olds : List Stored) → HoldsUpTo journal.gate (K.seen disk.old) text olds false
-            → Holds (K.seen disk.new) text (with_blocks olds (take count (cut batch rows.now))) false) }
+        → Holds (K.seen disk.new) text (with_blocks olds (take count (cut batch rows.now))) false) }
     ensures full_settled { result ≡ Err (stop.Fault fault.Full) → IsTrue (K.honest disk.old) → IsSettled (K.seen disk.old) (K.may_leave disk.old)
         → IsSettled (K.seen disk.new) (K.may_leave disk.new) }
     ensures causes { IfFault result (IsWriteFault (Rose (K.faults disk.old) (K.faults disk.new))) }
@@ -129,11 +129,7 @@ fn append<K: Disk>(
 }
 
 // Makes a table with no rows in a file that is none.
-fn make_table<K: Disk>(
-    alloc: Global,
-    disk: &mut K,
-    text: &[u8],
-) -> Result<Journal, Stop<LoadFault>>
+fn make_table<K: Disk>(alloc: Global, disk: &mut K, text: &[u8]) -> Result<Journal, Stop<LoadFault>>
     requires short { length text.now ≤ MAX_FLOW_BYTES }
     requires not_made { IsTrue (K.honest disk.old) → IsNotMade (K.seen disk.old) }
 

@@ -15,9 +15,9 @@ mod begin;
 mod fault;
 mod finish;
 mod laws;
-mod running;
 mod report;
 mod resume;
+mod running;
 mod sources;
 
 pub use fault::LoadFault;

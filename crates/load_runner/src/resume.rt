@@ -53,9 +53,9 @@ pub fn resume<D: Depot, K: Disk>(
         × AllHaveRoom (gate_of found text.now) (missing_blocks batch (count_of found) whole)) }
     ensures full { result ≡ Err (stop.Fault fault.Full) → (whole : List (List Value)) × IsMeaning flow.now (D.files depot.old) whole
         × ((count : ℕ) × IsFullBehind (gate_of found text.now) (missing_blocks batch (count_of found) whole) count
-            × All (IsRowOf (root_columns flow.now)) (together (take count (missing_blocks batch (count_of found) whole)))
-            × (IsTrue (K.honest disk.old) → (olds : List Stored) → IsAt found (K.seen disk.old) text.now olds
-                → Holds (K.seen disk.new) text.now (with_blocks olds (take count (missing_blocks batch (count_of found) whole))) false)) }
+        × All (IsRowOf (root_columns flow.now)) (together (take count (missing_blocks batch (count_of found) whole)))
+        × (IsTrue (K.honest disk.old) → (olds : List Stored) → IsAt found (K.seen disk.old) text.now olds
+        → Holds (K.seen disk.new) text.now (with_blocks olds (take count (missing_blocks batch (count_of found) whole))) false)) }
     ensures causes { IfFault result (RestsOn (Rose (D.faults depot.old) (D.faults depot.new)) (Rose (K.faults disk.old) (K.faults disk.new))) }
     ensures table { (place : ℕ) → result ≢ Err (stop.Fault (fault.NotATable place)) }
     ensures same_flow { result ≢ Err (stop.Fault fault.WorkflowDiffers) }
@@ -66,8 +66,8 @@ pub fn resume<D: Depot, K: Disk>(
     ensures any_moment { IsTrue (K.honest disk.old) → IsSettled (K.seen disk.old) (K.may_leave disk.old)
         → (olds : List Stored) → IsAt found (K.seen disk.old) text.now olds
         → (disk.new ≡ disk.old) ⊎ ((whole : List (List Value)) × IsMeaning flow.now (D.files depot.old) whole
-            × Each (LeftBetween (K.clock disk.old) (K.clock disk.new) (K.left_at disk.new))
-                (IsGrown text.now (root_columns flow.now) olds (missing_blocks batch (count_of found) whole))) }
+        × Each (LeftBetween (K.clock disk.old) (K.clock disk.new) (K.left_at disk.new))
+        (IsGrown text.now (root_columns flow.now) olds (missing_blocks batch (count_of found) whole))) }
     ensures grows { IsTrue (K.honest disk.old) → IsSettled (K.seen disk.old) (K.may_leave disk.old)
         → (olds : List Stored) → IsAt found (K.seen disk.old) text.now olds
         → (disk.new ≡ disk.old) ⊎ Grows text.now (K.clock disk.old) (K.clock disk.new) (K.left_at disk.new) }
@@ -83,7 +83,16 @@ pub fn resume<D: Depot, K: Disk>(
     // The report comes first, so that no memory is wanted once the table is ended.
     let report = report_of(alloc, root.id, before, rows.len() as u64)?;
     let missing = behind(rows.rows(), before);
-    match finish(alloc, disk, found, text, &root.schema, missing, batch, &mut writer) {
+    match finish(
+        alloc,
+        disk,
+        found,
+        text,
+        &root.schema,
+        missing,
+        batch,
+        &mut writer,
+    ) {
         Ok(()) => Ok(report),
         Err(stop) => Err(stop),
     }

@@ -62,9 +62,9 @@ pub fn load<D: Depot, K: Disk>(
     ensures adds { IsTrue (K.honest disk.old) → (committed : List (List Value)) (ended : Bool)
         → HoldsRows (K.seen disk.old) text.now (root_columns flow.now) committed ended
         → Each (LeftBetween (K.clock disk.old) (K.clock disk.new) (K.left_at disk.new)) (K.may_leave disk.old)
-            ⊎ ((ended ≡ false) × ((whole : List (List Value)) × IsMeaning flow.now (D.files depot.old) whole
-                × Each (LeftBetween (K.clock disk.old) (K.clock disk.new) (K.left_at disk.new))
-                    (λ image. K.may_leave disk.old image ⊎ HasGrown text.now (root_columns flow.now) committed (missing_blocks batch (length committed) whole) image))) }
+        ⊎ ((ended ≡ false) × ((whole : List (List Value)) × IsMeaning flow.now (D.files depot.old) whole
+        × Each (LeftBetween (K.clock disk.old) (K.clock disk.new) (K.left_at disk.new))
+        (λ image. K.may_leave disk.old image ⊎ HasGrown text.now (root_columns flow.now) committed (missing_blocks batch (length committed) whole) image))) }
     ensures time { IsTrue (K.honest disk.old) → GoesOn (K.clock disk.old) (K.clock disk.new) (K.left_at disk.old) (K.left_at disk.new) }
 
     // With Ok all that was missing stands, and the table is ended.

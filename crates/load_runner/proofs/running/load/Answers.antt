@@ -19,7 +19,7 @@ use Rattle.load_runner.proofs.running.load.Goals as goal
 
 ran : (g : _) (c : goal.After-resume g) → IsTrue (g.K.Disk.honest c.args.disk.now)
     → Ran g.K.Disk.seen g.K.Disk.may_leave g.K.Disk.clock g.K.Disk.left_at c.args.text.now (root_columns c.args.flow.now) c.args.flow.now (g.D.Depot.files c.args.depot.now) c.args.batch c.in-Ok.found
-        c.args.disk.now c.begin.new.disk c.resume.new.disk
+    c.args.disk.now c.begin.new.disk c.resume.new.disk
 ran g c honest =
     let still = c.begin.ensures.honest ∙ honest in
     let settled = c.in-Ok.ensures.settled honest in
@@ -67,7 +67,7 @@ returns-clause-settled g c = λ settles honest committed ended holds.
     record {
       only = c.resume.ensures.settled settles still (c.in-Ok.ensures.settled honest);
       first = still_first g.K.Disk.seen g.K.Disk.may_leave g.K.Disk.clock g.K.Disk.left_at c.verdicts_agree.ensures c.holds_once.ensures c.blocks_laws.ensures _ _ _ _ _ _ _ _ _ (ran g c honest)
-      (g.met.K.Disk.reads_image c.resume.new.disk now) (g.met.K.Disk.left_now c.resume.new.disk now) committed ended holds;
+          (g.met.K.Disk.reads_image c.resume.new.disk now) (g.met.K.Disk.left_now c.resume.new.disk now) committed ended holds;
     }
 
 pub returns-clause-refuses : goal.returns-clause-refuses
@@ -82,15 +82,15 @@ returns-clause-complete g c =
     let text = c.args.text.now in
     let Done : Report → Type 0 = λ report. IsTrue (g.K.Disk.honest c.begin.new.disk) → AllAdded nodes told text c.args.batch c.in-Ok.found (g.K.Disk.seen c.begin.new.disk) (g.K.Disk.seen c.resume.new.disk) report in
     let Completes : Report → Type 0 = λ report. IsTrue (g.K.Disk.honest c.args.disk.now) → (committed : List (List Value)) (ended : Bool)
-        → HoldsRows (g.K.Disk.seen c.args.disk.now) text (root_columns nodes) committed ended
-        → IfSome (last_of nodes) (λ root. IsComplete nodes told text root.id committed ended report (g.K.Disk.seen c.resume.new.disk)) in
+    → HoldsRows (g.K.Disk.seen c.args.disk.now) text (root_columns nodes) committed ended
+    → IfSome (last_of nodes) (λ root. IsComplete nodes told text root.id committed ended report (g.K.Disk.seen c.resume.new.disk)) in
     IfOk-weaker c.resume.result Done Completes
     (λ report done honest committed ended holds.
-        let still = c.begin.ensures.honest ∙ honest in
-        let added = done still in
-        let all = all_added g.K.Disk.seen g.K.Disk.may_leave g.K.Disk.clock g.K.Disk.left_at c.verdicts_agree.ensures c.holds_once.ensures c.blocks_laws.ensures _ _ _ _ _ _ _ _ _ (ran g c honest)
-        c.cut_laws.ensures.is_cut c.requires.some committed ended holds added.whole added.of_columns added.holds in
-        completed nodes told text committed added.whole ended (g.K.Disk.seen c.resume.new.disk) report c.root-root.result.now c.in-Ok.found added.meaning added.reported all.0 all.1 all.2 c.root-root.ensures.last)
+    let still = c.begin.ensures.honest ∙ honest in
+    let added = done still in
+    let all = all_added g.K.Disk.seen g.K.Disk.may_leave g.K.Disk.clock g.K.Disk.left_at c.verdicts_agree.ensures c.holds_once.ensures c.blocks_laws.ensures _ _ _ _ _ _ _ _ _ (ran g c honest)
+    c.cut_laws.ensures.is_cut c.requires.some committed ended holds added.whole added.of_columns added.holds in
+    completed nodes told text committed added.whole ended (g.K.Disk.seen c.resume.new.disk) report c.root-root.result.now c.in-Ok.found added.meaning added.reported all.0 all.1 all.2 c.root-root.ensures.last)
     c.resume.ensures.done
 
 pub returns-clause-full : goal.returns-clause-full
@@ -114,9 +114,9 @@ returns-clause-full g c = λ is honest committed ended holds.
 pub returns-clause-fits : goal.returns-clause-fits
 returns-clause-fits g c =
     on_ok_weaker c.resume.result (λ fits. λ honest committed holds.
-        let has = has_room g.K.Disk.seen g.K.Disk.may_leave g.K.Disk.clock g.K.Disk.left_at c.verdicts_agree.ensures c.holds_once.ensures c.blocks_laws.ensures _ _ _ _ _ _ _ _ _ (ran g c honest)
-        committed holds fits.0 fits.2 in
-        record { whole = fits.0; meaning = fits.1; olds = has.0; decodes = has.2; gate = has.1; at = has.3; room = has.4 })
+    let has = has_room g.K.Disk.seen g.K.Disk.may_leave g.K.Disk.clock g.K.Disk.left_at c.verdicts_agree.ensures c.holds_once.ensures c.blocks_laws.ensures _ _ _ _ _ _ _ _ _ (ran g c honest)
+    committed holds fits.0 fits.2 in
+    record { whole = fits.0; meaning = fits.1; olds = has.0; decodes = has.2; gate = has.1; at = has.3; room = has.4 })
     c.resume.ensures.all_fit
 
 pub returns-in-Err-clause-refuses : goal.returns-in-Err-clause-refuses
