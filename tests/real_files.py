@@ -26,12 +26,13 @@ def row_bytes(row):
     return b"".join(b"\x01" + struct.pack(">q", number) for number in row)
 
 
-def table_bytes(text, rows):
-    """A made table of this flow text: a block of the rows, where there are any, and the end."""
+def table_bytes(text, rows, batch=1000):
+    """A made table of this flow text: the rows in blocks of `batch`, and the end."""
     image = b"\x01WHTABLE" + struct.pack(">II", 1, len(text)) + text
-    if rows:
-        stored = b"".join(row_bytes(row) for row in rows)
-        image += b"\x01\x00" + struct.pack(">II", len(rows), len(stored)) + stored
+    for first in range(0, len(rows), batch):
+        block = rows[first:first + batch]
+        stored = b"".join(row_bytes(row) for row in block)
+        image += b"\x01\x00" + struct.pack(">II", len(block), len(stored)) + stored
     return image + b"\x01\x01" + bytes(8) + b"\x00"
 
 
@@ -90,18 +91,54 @@ def nums(text):
     return {"flow.toml": FLOW, "nums.csv": text}
 
 
-def the_example():
-    path = os.path.join(TOP, "examples", "meters")
+def example_files(example):
+    path = os.path.join(TOP, "examples", example)
     files = {}
     for name in ("flow.toml", "readings.csv"):
         with open(os.path.join(path, name), "rb") as file:
             files[name] = file.read()
     lines = files["readings.csv"].decode().splitlines()[1:]
-    rows = [tuple(int(field) for field in line.split(",")) for line in lines]
+    return files, [tuple(int(field) for field in line.split(",")) for line in lines]
+
+
+def the_examples():
+    files, rows = example_files("meters")
     loaded = expect_load("the example", files, rows)
     before = table_of(loaded)
-    expect("a second load", run("load", loaded), (7, b"", b"whload: table.whl is there already\n"))
+    expect("a second load", run("load", loaded), (0, b"complete\nbefore %d\nadded 0\n" % len(rows), b""))
     expect("a second load changes nothing", table_of(loaded), before)
+
+    files, rows = example_files("high_use")
+    high = [(used, meter, hour) for meter, day, hour, used in rows if used >= 500]
+    expect_load("a selection and a projection", files, high)
+
+
+def tables():
+    text = b"a,b\n1,10\n2,20\n3,30\n"
+    three = [(1, 10), (2, 20), (3, 30)]
+    path = folder(nums(text))
+    expect("blocks of two rows", run("load", path, "--batch", "2"), (0, REPORT % 3, b""))
+    expect("blocks of two rows: the table", table_of(path), table_bytes(FLOW, three, 2))
+
+    # A table of which one block is committed, with what a stopped load left behind the gate.
+    whole = table_bytes(FLOW, three, 1)
+    one = len(b"\x01WHTABLE") + 8 + len(FLOW) + 10 + 18
+    files = dict(nums(text), **{"table.whl": whole[:one] + b"\x00" + b"\x01" * 50})
+    path = folder(files)
+    expect("a load that goes on", run("load", path, "--batch", "1"),
+           (0, b"complete\nbefore 1\nadded 2\nedge nums passed 2 dropped 1\n", b""))
+    expect("a load that goes on: the table", table_of(path)[:len(whole)], whole)
+
+    for what, table, note in [
+            ("a changed flow", table_bytes(FLOW + b" ", three), b"table.whl was made by another workflow"),
+            ("another name", b"\x01WHTABLF" + whole[8:], b"table.whl is not a table at 1"),
+            ("a block of no rows", whole[:one] + b"\x01\x00" + bytes(8) + b"\x00",
+             b"table.whl is not a table at %d" % one),
+            ("a row that isn't one", whole[:one - 18] + b"\x02" + whole[one - 17:],
+             b"table.whl is not a table at %d" % (one - 18))]:
+        path = folder(dict(nums(text), **{"table.whl": table}))
+        expect(what, run("load", path), (7, b"", b"whload: " + note + b"\n"))
+        expect(what + ": the table", table_of(path), table)
 
 
 def csv_forms():
@@ -118,7 +155,7 @@ def csv_forms():
     many = [(i, i * i) for i in range(1000)]
     text = b"a,b\n" + b"".join(b"%d,%d\n" % row for row in many)
     expect_load("1,000 rows", nums(text), many)
-    expect_refusal("1,001 rows", nums(text + b"7,7\n"), 4, b"source file is not built yet")
+    expect_load("1,001 rows", nums(text + b"7,7\n"), many + [(7, 7)])
 
 
 def refusals():
@@ -139,7 +176,8 @@ def refusals():
             ("an empty flow", b"", b"flow.toml top 0 table 0: absent"),
             ("a flow of 65,537 bytes", FLOW + b"#" * (65537 - len(FLOW)),
              b"flow.toml has 65537 bytes"),
-            ("a text column", FLOW.replace(b"b int", b"b text"), b"flow.toml is not built yet")]:
+            ("a text column", FLOW.replace(b"b int", b"b text"), b"flow.toml is not built yet"),
+            ("another input", FLOW.replace(b'input = "nums"', b'input = "more"'), b"table: no input more")]:
         expect_refusal(what, {"flow.toml": text, "nums.csv": b"a,b\n"}, 3, note)
     longest = FLOW + b"#" * (65536 - len(FLOW))
     expect_load("a flow of 65,536 bytes", {"flow.toml": longest, "nums.csv": b"a,b\n1,2\n"}, [(1, 2)])
@@ -149,7 +187,8 @@ def refusals():
 def expect_refusal_of_words():
     usage = (b"whload: usage: whload load DIR [--batch N], explain DIR, check DIR, dump DIR, "
              b"pack DIR SOURCE, drill N\n")
-    for words in ([], ["load"], ["load", ".", "more"], ["Load", "."], ["dump", "."], ["--help"]):
+    for words in ([], ["load"], ["load", ".", "more"], ["Load", "."], ["dump", "."], ["--help"],
+                  ["load", ".", "--batch"], ["load", ".", "--batch", "0"], ["load", ".", "--batch", "4097"]):
         expect(f"the words {words}", run(*words), (2, b"", usage))
     expect("a word that isn't UTF-8", run("load", os.fsencode("\udcff")), (2, b"", usage))
 
@@ -204,7 +243,7 @@ def main():
     if not os.path.exists(PROGRAM):
         print("tests/real_files.py: there is no program to run; run the gate first")
         return 1
-    for part in (the_example, csv_forms, refusals, devices):
+    for part in (the_examples, tables, csv_forms, refusals, devices):
         part()
     print(f"real files: {passed} passed, {len(failed)} failed")
     return 1 if failed else 0

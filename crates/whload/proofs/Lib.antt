@@ -1,3 +1,5 @@
-pub mod Blocks
-pub mod Verdicts
 pub mod Tellings
+pub mod NodeNames
+pub mod Verdicts
+pub mod Batches
+pub mod Stopped

@@ -1,33 +1,38 @@
 -- How the verdict follows from what each step was told.
-use Rattle.std.proofs.Common.{◌≡◌, ℕ, List, Ok, Err, codes, refl}
+use Rattle.std.proofs.Common.{◌≡◌, ℕ, List, Some, None, Result, Ok, Err, codes, refl}
 use Rattle.outside.specs.Depot.{Files, file_at}
 use Rattle.outside.specs.Whole.{found_in}
-use Rattle.tuple_schema.specs.declared.value.Value.{Value}
-use Rattle.workflow_file.specs.Plain.{Plain}
+use Rattle.flow_types.specs.declared.node.Node.{Node}
 use Rattle.whload.specs.declared.reason.Reason.{Reason}
-use Rattle.whload.specs.Verdict.{text_in, flow_in, fresh_in, rows_in, loaded_in}
+use Rattle.whload.specs.declared.reason.Reason.TheVariants as why
+use Rattle.whload.specs.Words.{batch_in}
+use Rattle.whload.specs.Verdict.{Job, job_for, text_in, flow_in, job_of_text, job_in, verdict}
 
-module _ (files : Files) (size : ℕ) where
-  pub text_refused : (e : Reason) → text_in (found_in 65536 (file_at files (codes "flow.toml"))) ≡ Err e → loaded_in files size ≡ Err e
-  unfolding loaded_in
-  text_refused e is = rw is refl
+pub flow_refused : (batch : ℕ) (text : List ℕ) (e : Reason) → flow_in text ≡ Err e → job_of_text batch text ≡ Err e
+unfolding job_of_text
+flow_refused batch text e is = rw is refl
 
-  module _ (text : List ℕ) (told : text_in (found_in 65536 (file_at files (codes "flow.toml"))) ≡ Ok text) where
-    pub flow_refused : (e : Reason) → flow_in text ≡ Err e → loaded_in files size ≡ Err e
-    unfolding loaded_in
-    flow_refused e is = rw (told, is) refl
+pub flow_read : (batch : ℕ) (text : List ℕ) (nodes : List Node) → flow_in text ≡ Ok nodes → job_of_text batch text ≡ Ok (record { batch = batch; text = text; nodes = nodes })
+unfolding job_of_text
+flow_read batch text nodes is = rw is refl
 
-    module _ (flow : Plain) (read : flow_in text ≡ Ok flow) where
-      pub table_refused : (e : Reason) → fresh_in size ≡ Err e → loaded_in files size ≡ Err e
-      unfolding loaded_in
-      table_refused e is = rw (told, read, is) refl
+pub text_refused : (batch : ℕ) (files : Files) (e : Reason) → text_in (found_in 65536 (file_at files (codes "flow.toml"))) ≡ Err e → job_in batch files ≡ Err e
+unfolding job_in
+text_refused batch files e is = rw is refl
 
-      module _ (fresh : fresh_in size ≡ Ok tt) where
-        pub rows_refused : (e : Reason) → rows_in flow.columns (found_in 268435456 (file_at files flow.file)) ≡ Err e → loaded_in files size ≡ Err e
-        unfolding loaded_in
-        rows_refused e is = rw (told, read, fresh, is) refl
+pub text_read : (batch : ℕ) (files : Files) (text : List ℕ) → text_in (found_in 65536 (file_at files (codes "flow.toml"))) ≡ Ok text → job_in batch files ≡ job_of_text batch text
+unfolding job_in
+text_read batch files text is = rw is refl
 
-        pub rows_read : (rows : List (List Value)) → rows_in flow.columns (found_in 268435456 (file_at files flow.file)) ≡ Ok rows
-            → loaded_in files size ≡ Ok (record { text = text; columns = flow.columns; rows = rows })
-        unfolding loaded_in
-        rows_read rows is = rw (told, read, fresh, is) refl
+pub words_refused : (words : List (List ℕ)) (files : Files) → batch_in words ≡ None → verdict words files ≡ Err why.Usage
+unfolding verdict
+words_refused words files is = rw is refl
+
+pub words_read : (words : List (List ℕ)) (files : Files) (batch : ℕ) → batch_in words ≡ Some batch → verdict words files ≡ job_in batch files
+unfolding verdict
+words_read words files batch is = rw is refl
+
+-- there is one thing to be done
+pub same_job : (v : Result Job Reason) (job : Job) (batch : ℕ) (items text : List ℕ) (nodes : List Node)
+    → v ≡ Ok (job_for batch items nodes) → v ≡ Ok job → text ≡ items → job ≡ job_for batch text nodes
+same_job v job batch items text nodes first second is = rw is cc

@@ -1,6 +1,6 @@
--- What is to be loaded, without where it lies in memory.
+-- What there is to be done, without where it lies in memory.
 use Rattle.whload.specs.declared.find.Found.{Found}
-use Rattle.whload.specs.Verdict.{Loaded}
+use Rattle.whload.specs.Verdict.{Job, job_for}
 
-abbrev pub loaded_of : Found → Loaded
-loaded_of found = record { text = found.text.items; columns = found.columns; rows = found.rows }
+abbrev pub job_of : Found → Job
+job_of found = job_for found.batch found.text.items found.flow

@@ -1,8 +1,9 @@
 pub mod Words
 pub mod Reasons
+pub mod Stops
 pub mod Texts
 pub mod Lines
-pub mod Holds
 pub mod Verdict
 pub mod Answers
+pub mod Keepings
 pub mod Found

@@ -1,18 +1,39 @@
 -- The texts that the program writes.
-use Rattle.std.specs.Prelude.{ℕ, List, ◌++◌, codes, ⊤}
+use Rattle.std.specs.Prelude.{ℕ, List, [], ◌∷◌, ◌++◌, ◌==◌, codes, if◌then◌else◌, ⊤}
+use Rattle.std.specs.List.{flat_map}
 use Rattle.std.specs.Fmt.{decimal}
 use Rattle.workflow_file.specs.declared.fault.Place.{Place}
 use Rattle.workflow_file.specs.declared.fault.Lack.{Lack}
 use Rattle.workflow_file.specs.declared.fault.FlowFault.{FlowFault}
 use Rattle.workflow_file.specs.declared.fault.FlowFault.TheVariants as flow
 use Rattle.workflow_file.specs.Words.{section_text, lack_text}
+use Rattle.flow_types.specs.declared.fault.SchemaCause.{SchemaCause}
+use Rattle.flow_types.specs.declared.fault.SchemaCause.TheVariants as cause
+use Rattle.flow_types.specs.declared.fault.NodeId.{NodeId}
+use Rattle.flow_types.specs.declared.node.Node.{Node}
+use Rattle.load_runner.specs.declared.report.EdgeCount.{EdgeCount}
+use Rattle.load_runner.specs.declared.report.Report.{Report}
 use Rattle.whload.specs.declared.reason.Reason.{Reason}
 use Rattle.whload.specs.declared.reason.Reason.TheVariants as why
 use Rattle.whload.specs.declared.reason.Unbuilt.TheVariants as unbuilt
 
--- the report of a load that is complete: how many rows stood before, and how many it added
-abbrev pub report_text : ℕ → ℕ → List ℕ
-report_text before added = codes "complete\nbefore " ++ decimal before ++ codes "\nadded " ++ decimal added ++ codes "\n"
+-- the name of the node of this number, the first that has it
+abbrev pub name_of : List Node → NodeId → List ℕ
+name_of [] id = []
+name_of (node ∷ nodes) id = if node.id.0 == id.0 then node.name else name_of nodes id
+
+-- what passed the filter on an edge, and what was dropped there
+abbrev pub edge_line : List Node → EdgeCount → List ℕ
+edge_line nodes edge =
+    codes "edge " ++ (name_of nodes edge.edge ++ (codes " passed " ++ (decimal edge.passed ++ (codes " dropped " ++ (decimal edge.dropped ++ codes "\n")))))
+
+-- how many rows stood before, and how many a load added
+abbrev pub totals_text : Report → List ℕ
+totals_text report = codes "complete\nbefore " ++ (decimal report.committed_before ++ (codes "\nadded " ++ (decimal report.added ++ codes "\n")))
+
+-- the report of a load that is complete, and what its filters did
+abbrev pub report_text : List Node → Report → List ℕ
+report_text nodes report = totals_text report ++ flat_map (edge_line nodes) report.edges
 
 -- two words with a space between them
 abbrev pub spaced : List ℕ → List ℕ → List ℕ
@@ -30,15 +51,27 @@ abbrev pub fault_text : FlowFault → List ℕ
 fault_text flow.NotToml = codes "flow.toml is not TOML"
 fault_text (flow.Shape place what) = shape_text place what
 
+-- why a flow can't be typed, in words
+abbrev pub cause_text : SchemaCause → List ℕ
+cause_text cause.NameTwice = codes "name is used twice"
+cause_text (cause.NoInput name) = codes "no input " ++ name
+cause_text cause.UsedTwice = codes "is used twice"
+cause_text cause.NotReached = codes "is not reached from the table"
+cause_text (cause.UnknownColumn column) = codes "unknown column " ++ column
+cause_text (cause.DoubleColumn column) = codes "column " ++ (column ++ codes " comes twice")
+
 -- why a command wasn't done, in words
 abbrev pub reason_text : Reason → List ℕ
 reason_text why.Usage = codes "usage: whload load DIR [--batch N], explain DIR, check DIR, dump DIR, pack DIR SOURCE, drill N"
 reason_text why.FlowMissing = codes "flow.toml is missing"
 reason_text (why.FlowTooLong size) = codes "flow.toml has " ++ decimal size ++ codes " bytes"
 reason_text (why.Flow fault) = fault_text fault
+reason_text (why.Schema name fault) = name ++ (codes ": " ++ cause_text fault.cause)
 reason_text (why.NotBuilt unbuilt.Flow) = codes "flow.toml is not built yet"
 reason_text (why.NotBuilt unbuilt.Source) = codes "source file is not built yet"
-reason_text why.AlreadyBegun = codes "table.whl is there already"
+reason_text (why.NotATable place) = codes "table.whl is not a table at " ++ decimal place
+reason_text why.WorkflowDiffers = codes "table.whl was made by another workflow"
+reason_text why.Full = codes "table.whl is full"
 reason_text why.Depot = codes "a source file failed"
 reason_text why.Disk = codes "the table file failed"
 reason_text why.Sink = codes "the output failed"
@@ -48,8 +81,10 @@ reason_text why.Memory = codes "out of memory"
 abbrev pub refusal_line : Reason → List ℕ
 refusal_line reason = codes "whload: " ++ reason_text reason ++ codes "\n"
 
--- only a fault of `flow.toml` has a line that is made, which may find no memory
+-- its line tells a place, a size or a name, and is made, which may find no memory
 abbrev pub IsMade : Reason → Type 0
 IsMade (why.FlowTooLong size) = ⊤
 IsMade (why.Flow fault) = ⊤
+IsMade (why.NotATable place) = ⊤
+IsMade (why.Schema name fault) = ⊤
 IsMade reason = ⊥

@@ -4,16 +4,19 @@
 //! which does all the rest. Read `specs/Verdict.antt` first: what a load is to load, or the first
 //! refusal; then `specs/Holds.antt`: what rows a table file holds.
 //!
-//! Promised, on `run`: with Done the table holds exactly the tuples of the source, ended, and the
+//! Promised, on `run`: with Done the table holds exactly the rows that the flow means, ended, and the
 //! report is written; each refusal comes exactly where the verdict is that refusal, and the table
 //! reads as before; a device's fault is answered only where that device failed.
 //! Not promised: anything of a real file, folder or terminal, and that memory is found.
 #![tactic(auto)]
 
+mod carry;
 mod find;
+mod flow;
 mod reason;
 mod run;
-mod table;
+#[cfg(test)]
+mod stops;
 #[cfg(test)]
 mod tests;
 mod texts;

@@ -3,7 +3,9 @@ ghost use Rattle.std.specs.Prelude.{◌≡◌};
 ghost use Rattle.whload.specs.Reasons.{status_of, exit_status_of};
 ghost use Rattle.whload.specs.declared.reason.Reason.TheVariants as why;
 
+use flow_types::SchemaFault;
 use std::alloc::AllocError;
+use tuple_schema::Text;
 use workflow_file::FlowFault;
 
 /// What the program can't do yet.
@@ -26,10 +28,17 @@ pub enum Reason {
     FlowTooLong { size: u64 },
     /// The first fault of `flow.toml`.
     Flow(FlowFault),
+    /// The names in the flow don't fit together: its first fault, and the name of that fault's node, which
+    /// is `table` for the table.
+    Schema { name: Text, fault: SchemaFault },
     /// The flow or the source has something that can't be done yet.
     NotBuilt { what: Unbuilt },
-    /// The table's file isn't empty.
-    AlreadyBegun,
+    /// The table's file is made, and is no table: this is the first wrong place.
+    NotATable { at: u64 },
+    /// The table was made by another flow text.
+    WorkflowDiffers,
+    /// The next block would end past the longest file.
+    Full,
     /// The source files failed.
     Depot,
     /// The table's file failed.
@@ -66,13 +75,14 @@ impl Reason {
         match self {
             Reason::Usage => Status::Usage,
             Reason::FlowMissing | Reason::FlowTooLong { .. } | Reason::Flow(_) => Status::Schema,
+            Reason::Schema { .. } => Status::Schema,
             Reason::NotBuilt {
                 what: Unbuilt::Flow,
             } => Status::Schema,
             Reason::NotBuilt {
                 what: Unbuilt::Source,
             } => Status::Source,
-            Reason::AlreadyBegun => Status::Table,
+            Reason::NotATable { .. } | Reason::WorkflowDiffers | Reason::Full => Status::Table,
             Reason::Depot | Reason::Disk | Reason::Sink => Status::Device,
             Reason::Memory => Status::Memory,
         }

@@ -1,27 +1,30 @@
 // The top call.
-ghost use Rattle.std.specs.Prelude.{◌≡◌, ◌≢◌, ◌↔◌, ◌≤◌, ℕ, List, Some, None, true, false, Ok, Err, IsTrue, IsOk, length, map, string_bytes, All, OnOk, IfErr};
+ghost use Rattle.std.specs.Prelude.{◌≡◌, ◌≢◌, ◌↔◌, ◌⊎◌, ◌≤◌, ◌+◌, ℕ, List, Some, None, Ok, Err, IsTrue, IfSome, IsSomeAnd, length, map, string_bytes, Bool, true, false, codes};
 ghost use Rattle.outside.specs.Counts.{Rose};
-ghost use Rattle.outside.specs.Depot.{Files};
-ghost use Rattle.tuple_schema.specs.Schemas.{Fits};
-ghost use Rattle.tuple_schema.specs.declared.schema.ColumnKind.TheVariants as kind;
-ghost use Rattle.whload.specs.Holds.{Holds};
-ghost use Rattle.whload.specs.Words.{is_load};
-ghost use Rattle.whload.specs.Reasons.{IsRefusal, RestsOn, Tells};
+ghost use Rattle.outside.specs.Depot.{Files, file_at};
+ghost use Rattle.outside.specs.Whole.{size_of};
+ghost use Rattle.tuple_schema.specs.declared.value.Value.{Value};
+ghost use Rattle.table_write.specs.Rows.{HoldsRows};
+ghost use Rattle.load_runner.specs.Sources.{whole_in, root_columns};
+ghost use Rattle.load_runner.specs.Found.{State, IsFound, wrong, other};
+ghost use Rattle.load_runner.specs.Safe.{IsSettledWith};
+ghost use Rattle.load_runner.specs.Loads.{IsFullWith};
+ghost use Rattle.whload.specs.declared.reason.Unbuilt.TheVariants as unbuilt;
+ghost use Rattle.whload.specs.Words.{batch_in};
+ghost use Rattle.whload.specs.Reasons.{IsEarly, IsOutside, LeavesTable, Settles};
 ghost use Rattle.whload.specs.Texts.{refusal_line};
-ghost use Rattle.whload.specs.Answers.{ending_status, IsLoaded, IsTold, Notes, GainsFront, IsDoneOrMemory};
-ghost use Rattle.whload.specs.Verdict.{loaded_in, verdict};
+ghost use Rattle.whload.specs.Answers.{ending_status, answer_of, IsDone, IsTold, Notes, GainsFront, AnswersState, IsDoneOrMemory};
+ghost use Rattle.whload.specs.Keepings.{KeepsRows, StaysSafe, NeverShrinks, AddsMissing, LeavesNothingNew, CanLoad};
+ghost use Rattle.whload.specs.Verdict.{Job, verdict};
 
-use crate::find::{Found, find};
-use crate::table::write_table;
-use crate::texts::{NO_MEMORY, line_of, report};
-use crate::words::is_load;
+use crate::carry::carry_out;
+use crate::texts::{NO_MEMORY, line_of};
 use crate::{Ending, Reason, Status};
 use outside::{Depot, Disk, Sink, put_all};
 use std::alloc::Global;
-use tuple_schema::Stop;
 
-/// Carries out the command that the words are, over these devices. Whatever it answers, nothing that
-/// stood in the table before is lost.
+/// Carries out the command that the words are, over these devices. Whatever it answers, and wherever it is
+/// stopped, no row that was committed is lost or doubled.
 ///
 /// A command that isn't done writes one line to `notes`, and nothing to `out` unless `out` failed.
 pub fn run<D: Depot, K: Disk, S: Sink, N: Sink>(
@@ -32,27 +35,65 @@ pub fn run<D: Depot, K: Disk, S: Sink, N: Sink>(
     out: &mut S,
     notes: &mut N,
 ) -> Ending
-    // With Done the table holds exactly what there was to be loaded, and the report is written.
-    ensures done { result.reason ≡ None → (files : Files) → D.files depot.old ≡ Some files → IsTrue (K.honest disk.old)
-        → IsLoaded (verdict (map string_bytes words.now) files (length (K.seen disk.old))) (K.seen disk.new) (S.written out.old) (S.written out.new) }
-
-    // A refusal is that of the verdict, and the table reads as before.
-    ensures refused { (reason : Reason) → result.reason ≡ Some reason → IsRefusal reason
-        → (files : Files) → D.files depot.old ≡ Some files → IsTrue (K.honest disk.old)
-        → verdict (map string_bytes words.now) files (length (K.seen disk.old)) ≡ Err reason }
-    ensures untouched { (reason : Reason) → result.reason ≡ Some reason → IsRefusal reason → IsTrue (K.honest disk.old)
-        → K.seen disk.new ≡ K.seen disk.old }
-    ensures usage { (result.reason ≡ Some Reason.Usage) ↔ (is_load (map string_bytes words.now) ≡ false) }
+    // The words and the flow are refused exactly where they have this as their first cause, and then no table is touched.
+    ensures early { (reason : Reason) → result.reason ≡ Some reason → IsEarly reason → (files : Files) → D.files depot.old ≡ Some files
+        → verdict (map string_bytes words.now) files ≡ Err reason }
+    ensures asked { (files : Files) → D.files depot.old ≡ Some files → (reason : Reason) → verdict (map string_bytes words.now) files ≡ Err reason
+        → (result.reason ≡ Some reason) ⊎ IsSomeAnd result.reason IsOutside }
+    ensures usage { (result.reason ≡ Some Reason.Usage) ↔ (batch_in (map string_bytes words.now) ≡ None) }
     ensures usage_only_notes { result.reason ≡ Some Reason.Usage → (depot.new ≡ depot.old) × (disk.new ≡ disk.old) × (out.new ≡ out.old) }
+
+    // Whatever is answered, and at every moment of the call:
+    ensures kept { (files : Files) → D.files depot.old ≡ Some files → (job : Job) → verdict (map string_bytes words.now) files ≡ Ok job
+        → IsTrue (K.honest disk.old) → KeepsRows K.may_leave K.clock K.left_at job disk.old disk.new }
+    ensures safe { (files : Files) → D.files depot.old ≡ Some files → (job : Job) → verdict (map string_bytes words.now) files ≡ Ok job
+        → IsTrue (K.honest disk.old) → (whole : List (List Value)) → whole_in job.nodes files ≡ Some whole
+        → StaysSafe K.may_leave K.clock K.left_at job disk.old disk.new whole }
+    ensures grows { (files : Files) → D.files depot.old ≡ Some files → (job : Job) → verdict (map string_bytes words.now) files ≡ Ok job
+        → IsTrue (K.honest disk.old) → NeverShrinks K.may_leave K.clock K.left_at job disk.old disk.new }
+    ensures adds { (files : Files) → D.files depot.old ≡ Some files → (job : Job) → verdict (map string_bytes words.now) files ≡ Ok job
+        → IsTrue (K.honest disk.old) → (committed : List (List Value)) (ended : Bool) → HoldsRows (K.seen disk.old) job.text (root_columns job.nodes) committed ended
+        → AddsMissing K.may_leave K.clock K.left_at job disk.old disk.new (D.files depot.old) committed ended }
+
+    // With Done the table is ended, and holds behind the committed rows all that was missing of the flow's meaning.
+    ensures done { result.reason ≡ None → (files : Files) → D.files depot.old ≡ Some files → (job : Job) → verdict (map string_bytes words.now) files ≡ Ok job
+        → IsTrue (K.honest disk.old) → (committed : List (List Value)) (ended : Bool) → HoldsRows (K.seen disk.old) job.text (root_columns job.nodes) committed ended
+        → IsDone job (D.files depot.old) committed ended (K.seen disk.new) (S.written out.old) (S.written out.new) }
+    ensures at_rest { (files : Files) → D.files depot.old ≡ Some files → (job : Job) → verdict (map string_bytes words.now) files ≡ Ok job
+        → IsTrue (K.honest disk.old) → (committed : List (List Value)) → HoldsRows (K.seen disk.old) job.text (root_columns job.nodes) committed true
+        → D.served depot.new ≤ D.served depot.old + size_of (file_at files (codes "flow.toml")) }
+
+    // What stands after each answer.
+    ensures settled { Settles result.reason → (files : Files) → D.files depot.old ≡ Some files → (job : Job) → verdict (map string_bytes words.now) files ≡ Ok job
+        → IsTrue (K.honest disk.old) → (committed : List (List Value)) (ended : Bool) → HoldsRows (K.seen disk.old) job.text (root_columns job.nodes) committed ended
+        → IsSettledWith job.text (root_columns job.nodes) committed (K.seen disk.new) (K.may_leave disk.new) }
+    ensures untouched { IsSomeAnd result.reason LeavesTable → IsTrue (K.honest disk.old) → (job : Job) → LeavesNothingNew K.may_leave K.clock K.left_at job disk.old disk.new }
+    ensures memory { result.reason ≡ Some Reason.Memory → (files : Files) → D.files depot.old ≡ Some files → (job : Job) → verdict (map string_bytes words.now) files ≡ Ok job
+        → IsTrue (K.honest disk.old) → (committed : List (List Value)) (ended : Bool) → HoldsRows (K.seen disk.old) job.text (root_columns job.nodes) committed ended
+        → LeavesNothingNew K.may_leave K.clock K.left_at job disk.old disk.new ⊎ IsSettledWith job.text (root_columns job.nodes) committed (K.seen disk.new) (K.may_leave disk.new) }
+
+    // The table's file is refused exactly where it is found to be no table of this flow, and the source where it has no content.
+    ensures not_a_table { (place : ℕ) → result.reason ≡ Some (Reason.NotATable place) → (files : Files) → D.files depot.old ≡ Some files → (job : Job)
+        → verdict (map string_bytes words.now) files ≡ Ok job → IsTrue (K.honest disk.old) → IsFound (K.seen disk.old) job.text (root_columns job.nodes) (wrong place) }
+    ensures differs { result.reason ≡ Some Reason.WorkflowDiffers → (files : Files) → D.files depot.old ≡ Some files → (job : Job)
+        → verdict (map string_bytes words.now) files ≡ Ok job → IsTrue (K.honest disk.old) → IsFound (K.seen disk.old) job.text (root_columns job.nodes) other }
+    ensures refuses { (files : Files) → D.files depot.old ≡ Some files → (job : Job) → verdict (map string_bytes words.now) files ≡ Ok job
+        → IsTrue (K.honest disk.old) → (state : State) → IsFound (K.seen disk.old) job.text (root_columns job.nodes) state → AnswersState state result.reason }
+    ensures not_built { result.reason ≡ Some (Reason.NotBuilt unbuilt.Source) → (files : Files) → D.files depot.old ≡ Some files → (job : Job)
+        → verdict (map string_bytes words.now) files ≡ Ok job → whole_in job.nodes files ≡ None }
+    ensures full { result.reason ≡ Some Reason.Full → (files : Files) → D.files depot.old ≡ Some files → (job : Job) → verdict (map string_bytes words.now) files ≡ Ok job
+        → IsTrue (K.honest disk.old) → (committed : List (List Value)) (ended : Bool) → HoldsRows (K.seen disk.old) job.text (root_columns job.nodes) committed ended
+        → IsFullWith job.nodes (D.files depot.old) job.text job.batch committed (K.seen disk.old) (K.seen disk.new) }
 
     // A device's fault is answered only where that device failed in this call.
     ensures depot { result.reason ≡ Some Reason.Depot → Rose (D.faults depot.old) (D.faults depot.new) }
     ensures disk { result.reason ≡ Some Reason.Disk → Rose (K.faults disk.old) (K.faults disk.new) }
     ensures sink { result.reason ≡ Some Reason.Sink → Rose (S.faults out.old) (S.faults out.new) }
 
-    // Where no refusal has a cause and no device failed, the load is done, or finds no memory.
-    ensures complete { (files : Files) → D.files depot.old ≡ Some files → IsTrue (K.honest disk.old)
-        → IsOk (verdict (map string_bytes words.now) files (length (K.seen disk.old)))
+    // Where nothing is to be refused and no device failed, the load is done, or finds no memory.
+    ensures complete { (files : Files) → D.files depot.old ≡ Some files → (job : Job) → verdict (map string_bytes words.now) files ≡ Ok job
+        → IsTrue (K.honest disk.old) → (committed : List (List Value)) (ended : Bool) → HoldsRows (K.seen disk.old) job.text (root_columns job.nodes) committed ended
+        → CanLoad job files committed (K.seen disk.old)
         → ¬ Rose (D.faults depot.old) (D.faults depot.new) → ¬ Rose (K.faults disk.old) (K.faults disk.new) → ¬ Rose (S.faults out.old) (S.faults out.new)
         → IsDoneOrMemory result.reason }
 
@@ -94,77 +135,5 @@ fn note<N: Sink>(reason: Reason, line: &[u8], notes: &mut N) -> Ending
     Ending {
         status: reason.status(),
         reason: Some(reason),
-    }
-}
-
-// Carries out the command, and says why where it isn't done.
-fn carry_out<D: Depot, K: Disk, S: Sink>(
-    alloc: Global,
-    words: &[String],
-    depot: &mut D,
-    disk: &mut K,
-    out: &mut S,
-) -> Result<(), Reason>
-    ensures done { OnOk result ((files : Files) → D.files depot.old ≡ Some files → IsTrue (K.honest disk.old)
-        → IsLoaded (verdict (map string_bytes words.now) files (length (K.seen disk.old))) (K.seen disk.new) (S.written out.old) (S.written out.new)) }
-    ensures refused { IfErr result (λ reason. IsRefusal reason → (files : Files) → D.files depot.old ≡ Some files → IsTrue (K.honest disk.old)
-        → verdict (map string_bytes words.now) files (length (K.seen disk.old)) ≡ Err reason) }
-    ensures untouched { IfErr result (λ reason. IsRefusal reason → IsTrue (K.honest disk.old) → K.seen disk.new ≡ K.seen disk.old) }
-    ensures usage { (result ≡ Err Reason.Usage) ↔ (is_load (map string_bytes words.now) ≡ false) }
-    ensures usage_does_nothing { result ≡ Err Reason.Usage → (depot.new ≡ depot.old) × (disk.new ≡ disk.old) × (out.new ≡ out.old) }
-    ensures depot { result ≡ Err Reason.Depot → Rose (D.faults depot.old) (D.faults depot.new) }
-    ensures disk { result ≡ Err Reason.Disk → Rose (K.faults disk.old) (K.faults disk.new) }
-    ensures sink { result ≡ Err Reason.Sink → Rose (S.faults out.old) (S.faults out.new) }
-    ensures quiet { IfErr result (λ reason. reason ≢ Reason.Sink → S.written out.new ≡ S.written out.old) }
-    ensures front { result ≡ Err Reason.Sink → GainsFront (S.written out.old) (S.written out.new) }
-{
-    if !is_load(words) {
-        return Err(Reason::Usage);
-    }
-    load(alloc, depot, disk, out)
-}
-
-// Loads, and reports.
-fn load<D: Depot, K: Disk, S: Sink>(
-    alloc: Global,
-    depot: &mut D,
-    disk: &mut K,
-    out: &mut S,
-) -> Result<(), Reason>
-    ensures done { OnOk result ((files : Files) → D.files depot.old ≡ Some files → IsTrue (K.honest disk.old)
-        → IsLoaded (loaded_in files (length (K.seen disk.old))) (K.seen disk.new) (S.written out.old) (S.written out.new)) }
-    ensures refused { IfErr result (λ reason. IsRefusal reason → (files : Files) → D.files depot.old ≡ Some files → IsTrue (K.honest disk.old)
-        → loaded_in files (length (K.seen disk.old)) ≡ Err reason) }
-    ensures untouched { IfErr result (λ reason. IsRefusal reason → IsTrue (K.honest disk.old) → K.seen disk.new ≡ K.seen disk.old) }
-    ensures causes { RestsOn (Rose (D.faults depot.old) (D.faults depot.new)) (Rose (K.faults disk.old) (K.faults disk.new)) (Rose (S.faults out.old) (S.faults out.new)) result }
-    ensures quiet { IfErr result (λ reason. reason ≢ Reason.Sink → S.written out.new ≡ S.written out.old) }
-    ensures front { result ≡ Err Reason.Sink → GainsFront (S.written out.old) (S.written out.new) }
-{
-    let found = find(alloc, depot, disk)?;
-    // The report comes first, so that no memory is wanted once the table is ended.
-    let report = report(alloc, 0, found.rows.len() as u64)?;
-    write(alloc, disk, &found)?;
-    match put_all(out, report.as_bytes()) {
-        Ok(()) => Ok(()),
-        Err(_) => Err(Reason::Sink),
-    }
-}
-
-// Writes the table of what was found.
-fn write<K: Disk>(alloc: Global, disk: &mut K, found: &Found) -> Result<(), Reason>
-    requires short { length found.now.text.items ≤ 65536 }
-    requires few { length found.now.rows ≤ 1000 }
-    requires numbers { All (λ c. c.kind ≡ kind.Int) found.now.columns }
-    requires fit { All (λ row. Fits found.now.columns row) found.now.rows }
-    requires empty { IsTrue (K.honest disk.old) → length (K.seen disk.old) ≡ 0 }
-    ensures holds { OnOk result (IsTrue (K.honest disk.old) → Holds (K.seen disk.new) found.now.text.items found.now.columns found.now.rows true) }
-    ensures only { IfErr result (λ reason. IsRefusal reason → ⊥) }
-    ensures causes { RestsOn ⊥ (Rose (K.faults disk.old) (K.faults disk.new)) ⊥ result }
-    ensures later { K.faults disk.old ≤ K.faults disk.new }
-{
-    match write_table(alloc, disk, &found.text, &found.columns, &found.rows) {
-        Ok(()) => Ok(()),
-        Err(Stop::Memory) => Err(Reason::Memory),
-        Err(Stop::Fault(_)) => Err(Reason::Disk),
     }
 }

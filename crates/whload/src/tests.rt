@@ -5,18 +5,18 @@ use std::alloc::Global;
 use std::fmt::Write;
 use std::test::Fail;
 
-const FLOW: &str =
+pub const FLOW: &str =
     "table = { input = \"nums\" }\nsource = [ { name = \"nums\", file = \"nums.csv\", columns = [\"a int\", \"b int\"], promise = \"seq\" } ]\n";
 
-const THREE: &str = "a,b\n1,10\n2,20\n3,30\n";
+pub const THREE: &str = "a,b\n1,10\n2,20\n3,30\n";
 
 // The block of those rows, and the end block with a closed gate behind it.
-const THREE_ROWS: &str =
+pub const THREE_ROWS: &str =
     "0100000000030000003601000000000000000101000000000000000a01000000000000000201000000000000001401000000000000000301000000000000001e";
 
 const END: &str = "0101000000000000000000";
 
-const DONE: &str = "0|complete\nbefore 0\nadded 3\n|";
+pub const DONE: &str = "0|complete\nbefore 0\nadded 3\n|";
 
 // What stands after a command.
 #[derive(Drop)]
@@ -28,13 +28,13 @@ struct Left {
     starved: u64,
 }
 
-fn said(alloc: Global, ending: &Ending, out: &[u8], notes: &[u8]) -> Result<String, Fail> {
+pub fn said(alloc: Global, ending: &Ending, out: &[u8], notes: &[u8]) -> Result<String, Fail> {
     let out = String::from_utf8_lossy(alloc, out)?;
     let notes = String::from_utf8_lossy(alloc, notes)?;
     Ok(format!(in alloc; "{}|{out}|{notes}", ending.status.code())?)
 }
 
-fn owned(alloc: Global, words: &[&str]) -> Result<Vec<String>, Fail> {
+pub fn owned(alloc: Global, words: &[&str]) -> Result<Vec<String>, Fail> {
     let mut owned = Vec::new(alloc);
     for word in words {
         owned.push(String::from_str(alloc, word)?)?;
@@ -61,7 +61,7 @@ fn command(
 }
 
 // A folder with these files, where they are given.
-fn folder(alloc: Global, flow: Option<&str>, nums: Option<&str>) -> Result<MemoryDepot, Fail> {
+pub fn folder(alloc: Global, flow: Option<&str>, nums: Option<&str>) -> Result<MemoryDepot, Fail> {
     let mut depot = MemoryDepot::new(alloc);
     if let Some(text) = flow {
         depot.put("flow.toml", text.as_bytes())?;
@@ -84,7 +84,7 @@ fn load(alloc: Global, flow: Option<&str>, nums: Option<&str>, table: &[u8]) -> 
     load_over(alloc, depot, MemoryDisk::new(alloc, table)?)
 }
 
-fn hex(alloc: Global, bytes: &[u8]) -> Result<String, Fail> {
+pub fn hex(alloc: Global, bytes: &[u8]) -> Result<String, Fail> {
     let mut text = String::new(alloc);
     for byte in bytes {
         write!(text, "{byte:02x}")?;
@@ -119,16 +119,47 @@ fn a_header_alone_makes_an_ended_table(rt: HostRuntime) -> Result<(), Fail> {
     Ok(())
 }
 
+// An ended table costs the flow file alone.
 #[test]
-fn a_second_load_is_refused(rt: HostRuntime) -> Result<(), Fail> {
+fn a_second_load_adds_nothing(rt: HostRuntime) -> Result<(), Fail> {
     let first = load(rt.alloc(), Some(FLOW), Some(THREE), b"")?;
     let table = first.table.as_slice();
     let second = load(rt.alloc(), Some(FLOW), Some(THREE), table)?;
-    assert_eq!(rt;
-        second.said.as_str(),
-        "7||whload: table.whl is there already\n"
-    );
+    assert_eq!(rt; second.said.as_str(), "0|complete\nbefore 3\nadded 0\n|");
     assert_eq!(rt; second.table.as_slice(), table);
+    assert_eq!(rt; second.served, FLOW.len() as u64);
+    Ok(())
+}
+
+const OTHER_TABLES: [(&[u8], &str); 3] = [
+    (b"\x01", DONE),
+    (
+        b"\x01WHTABLF..........",
+        "7||whload: table.whl is not a table at 1\n",
+    ),
+    (b"some other file, longer than a head", DONE),
+];
+
+#[test]
+fn a_file_that_is_no_table_is_refused_where_it_is_made(rt: HostRuntime) -> Result<(), Fail> {
+    for (table, answer) in OTHER_TABLES {
+        let left = load(rt.alloc(), Some(FLOW), Some(THREE), table)?;
+        assert_eq!(rt; left.said.as_str(), answer);
+    }
+    Ok(())
+}
+
+#[test]
+fn a_changed_flow_is_refused(rt: HostRuntime) -> Result<(), Fail> {
+    let first = load(rt.alloc(), Some(FLOW), Some(THREE), b"")?;
+    let table = first.table.as_slice();
+    let changed = format!(in rt.alloc(); "{FLOW} ")?;
+    let left = load(rt.alloc(), Some(changed.as_str()), Some(THREE), table)?;
+    assert_eq!(rt;
+        left.said.as_str(),
+        "7||whload: table.whl was made by another workflow\n"
+    );
+    assert_eq!(rt; left.table.as_slice(), table);
     Ok(())
 }
 
@@ -213,6 +244,89 @@ fn the_first_fault_of_a_flow_is_told(rt: HostRuntime) -> Result<(), Fail> {
     Ok(())
 }
 
+// The flow with this input of the table, and with these nodes over the source.
+fn flow_with(alloc: Global, input: &str, nodes: &str) -> Result<String, Fail> {
+    Ok(format!(in alloc;
+        "table = {{ input = \"{input}\" }}\nsource = [ {{ name = \"nums\", file = \"nums.csv\", columns = [{INTS}], promise = \"seq\" }} ]\nnode = [ {nodes} ]\n"
+    )?)
+}
+
+// What is said of a load through these nodes, and what stands in the table from the first gate on.
+fn load_through(alloc: Global, input: &str, nodes: &str) -> Result<(String, String), Fail> {
+    let flow = flow_with(alloc, input, nodes)?;
+    let left = load(alloc, Some(flow.as_str()), Some(THREE), b"")?;
+    let blocks = blocks(alloc, &left, flow.as_str())?;
+    Ok((left.said, blocks))
+}
+
+const BIG: &str = "{ name = \"big\", kind = \"select\", input = \"nums\", where = \"b >= 20\" }";
+
+const TWO_ROWS: &str =
+    "0100000000020000002401000000000000000201000000000000001401000000000000000301000000000000001e";
+
+#[test]
+fn a_selection_keeps_rows_of_its_input(rt: HostRuntime) -> Result<(), Fail> {
+    let (said, blocks) = load_through(rt.alloc(), "big", BIG)?;
+    assert_eq!(rt; said.as_str(), "0|complete\nbefore 0\nadded 2\n|");
+    assert_eq!(rt; blocks.as_str().strip_prefix(TWO_ROWS), Some(END));
+    Ok(())
+}
+
+const NAMES: &str =
+    "{ name = \"names\", kind = \"project\", input = \"nums\", columns = [\"b as x\"] }";
+
+const THREE_NUMBERS: &str =
+    "0100000000030000001b01000000000000000a01000000000000001401000000000000001e";
+
+#[test]
+fn a_projection_takes_columns_of_its_input(rt: HostRuntime) -> Result<(), Fail> {
+    let (said, blocks) = load_through(rt.alloc(), "names", NAMES)?;
+    assert_eq!(rt; said.as_str(), DONE);
+    assert_eq!(rt; blocks.as_str().strip_prefix(THREE_NUMBERS), Some(END));
+    Ok(())
+}
+
+const UNTYPED: [(&str, &str, &str); 7] = [
+    (
+        "nums",
+        "{ name = \"nums\", kind = \"select\", input = \"nums\", where = \"b >= 20\" }",
+        "3||whload: nums: name is used twice\n",
+    ),
+    (
+        "big",
+        "{ name = \"big\", kind = \"select\", input = \"other\", where = \"b >= 20\" }",
+        "3||whload: big: no input other\n",
+    ),
+    ("other", BIG, "3||whload: table: no input other\n"),
+    ("nums", BIG, "3||whload: nums: is used twice\n"),
+    (
+        "nums",
+        "{ name = \"up\", kind = \"project\", input = \"up\", columns = [\"b\"] }",
+        "3||whload: up: is not reached from the table\n",
+    ),
+    (
+        "big",
+        "{ name = \"big\", kind = \"select\", input = \"nums\", where = \"c >= 20\" }",
+        "3||whload: big: unknown column c\n",
+    ),
+    (
+        "names",
+        "{ name = \"names\", kind = \"project\", input = \"nums\", columns = [\"b as x\", \"a as x\"] }",
+        "3||whload: names: column x comes twice\n",
+    ),
+];
+
+#[test]
+fn the_first_fault_of_the_names_is_told(rt: HostRuntime) -> Result<(), Fail> {
+    for (input, nodes, answer) in UNTYPED {
+        let flow = flow_with(rt.alloc(), input, nodes)?;
+        let left = load(rt.alloc(), Some(flow.as_str()), Some(THREE), b"")?;
+        assert_eq!(rt; left.said.as_str(), answer);
+        assert_eq!(rt; left.table.len(), 0);
+    }
+    Ok(())
+}
+
 // The flow, and a comment up to so many bytes.
 fn long_flow(alloc: Global, len: usize) -> Result<String, Fail> {
     let mut flow = String::from_str(alloc, FLOW)?;
@@ -262,6 +376,13 @@ fn other_words_are_no_command(rt: HostRuntime) -> Result<(), Fail> {
         &["load", "d", "e"],
         &["Load", "d"],
         &["dump", "d"],
+        &["load", "d", "--batch"],
+        &["load", "d", "--batch", "0"],
+        &["load", "d", "--batch", "4097"],
+        &["load", "d", "--batch", "007"],
+        &["load", "d", "--batch", "+7"],
+        &["load", "d", "--batch", ""],
+        &["load", "d", "--size", "7"],
     ] {
         let left = command_of(rt.alloc(), words)?;
         assert_eq!(rt; left.said.as_str(), answer);
@@ -296,14 +417,14 @@ fn load_where_the_disk_fails(alloc: Global, call: u64) -> Result<Left, Fail> {
     load_over(alloc, depot, disk)
 }
 
-// The size twice, six calls to make the table, four for each of two blocks.
+// Each of the disk's calls fails in turn, and then none that the load makes.
 #[test]
 fn a_disk_that_fails_is_named(rt: HostRuntime) -> Result<(), Fail> {
-    for call in 1..17 {
+    for call in 1..18 {
         let left = load_where_the_disk_fails(rt.alloc(), call)?;
         assert_eq!(rt; left.said.as_str(), "5||whload: the table file failed\n");
     }
-    let left = load_where_the_disk_fails(rt.alloc(), 17)?;
+    let left = load_where_the_disk_fails(rt.alloc(), 18)?;
     assert_eq!(rt; left.said.as_str(), DONE);
     Ok(())
 }
@@ -356,13 +477,9 @@ fn ample_memory_is_never_memory(rt: HostRuntime) -> Result<(), Fail> {
 }
 
 #[test]
-fn more_rows_are_not_built_yet(rt: HostRuntime) -> Result<(), Fail> {
-    let nums = rows(rt.alloc(), 1001)?;
+fn many_rows_make_many_blocks(rt: HostRuntime) -> Result<(), Fail> {
+    let nums = rows(rt.alloc(), 2500)?;
     let left = load(rt.alloc(), Some(FLOW), Some(nums.as_str()), b"")?;
-    assert_eq!(rt;
-        left.said.as_str(),
-        "4||whload: source file is not built yet\n"
-    );
-    assert_eq!(rt; left.table.len(), 0);
+    assert_eq!(rt; left.said.as_str(), "0|complete\nbefore 0\nadded 2500\n|");
     Ok(())
 }

@@ -1,17 +1,70 @@
 // What the program writes.
-ghost use Rattle.std.specs.Prelude.{◌≡◌, ◌++◌, IfOk, OnErr, codes, string_bytes};
-ghost use Rattle.whload.specs.Texts.{report_text, place_text, shape_text, refusal_line, IsMade};
+ghost use Rattle.std.specs.Prelude.{◌≡◌, ◌++◌, IfOk, OnOk, OnErr, codes, string_bytes};
+ghost use Rattle.std.specs.List.{flat_map};
+ghost use Rattle.whload.specs.Texts.{report_text, edge_line, name_of, place_text, shape_text, cause_text, refusal_line, IsMade};
 ghost use Rattle.whload.specs.Lines.{line_text};
 
 use crate::{Reason, Unbuilt};
+use flow_types::{Flow, Node, NodeId, SchemaCause};
+use load_runner::{EdgeCount, Report};
 use std::alloc::{AllocError, Global};
+use tuple_schema::Text;
 use workflow_file::{FlowFault, Lack, Place};
 
 /// The report of a load that is complete.
-pub fn report(alloc: Global, before: u64, added: u64) -> Result<String, AllocError>
-    ensures { IfOk result (λ text. string_bytes text ≡ report_text before added) }
+pub fn report_text(alloc: Global, flow: &Flow, report: &Report) -> Result<String, AllocError>
+    ensures { IfOk result (λ text. string_bytes text ≡ report_text flow.now report.now) }
 {
-    format!(in alloc; "complete\nbefore {before}\nadded {added}\n")
+    let before = report.committed_before;
+    let added = report.added;
+    let mut text = format!(in alloc; "complete\nbefore {before}\nadded {added}\n")?;
+    add_edges(alloc, flow, report.edges.items(), &mut text)?;
+    Ok(text)
+}
+
+// A line for each edge, behind the text.
+fn add_edges(
+    alloc: Global,
+    flow: &Flow,
+    edges: &[EdgeCount],
+    text: &mut String,
+) -> Result<(), AllocError>
+    ensures { OnOk result (string_bytes text.new ≡ string_bytes text.old ++ flat_map (edge_line flow.now) edges.now) }
+{
+    match edges {
+        [] => Ok(()),
+        [edge, others @ ..] => {
+            let line = edge_line(alloc, flow, edge)?;
+            text.push_str(line.as_str())?;
+            add_edges(alloc, flow, others, text)
+        }
+    }
+}
+
+// What passed the filter on an edge, and what was dropped there.
+fn edge_line(alloc: Global, flow: &Flow, edge: &EdgeCount) -> Result<String, AllocError>
+    ensures { IfOk result (λ text. string_bytes text ≡ edge_line flow.now edge.now) }
+{
+    let name = name_of(flow.nodes(), edge.edge);
+    let passed = edge.passed;
+    let dropped = edge.dropped;
+    format!(in alloc; "edge {name} passed {passed} dropped {dropped}\n")
+}
+
+// The name of the first node of this number.
+fn name_of(nodes: &[Node], id: NodeId) -> &str
+    ensures { result.now ≡ name_of nodes.now id }
+{
+    match nodes {
+        [] => "",
+        [node, others @ ..] => {
+            if node.id.0 == id.0 {
+                node.name.as_str()
+            } else {
+                name_of(others, id)
+            }
+        }
+    }
 }
 
 /// The line that tells why a command wasn't done.
@@ -32,7 +85,7 @@ impl Line {
     }
 }
 
-/// The line of the reason. Only that of a fault of `flow.toml` takes memory.
+/// The line of the reason. Only those that tell a place, a size or a name take memory.
 pub fn line_of(alloc: Global, reason: &Reason) -> Result<Line, AllocError>
     ensures text { IfOk result (λ line. line_text line ≡ refusal_line reason.now) }
     ensures made { OnErr result (IsMade reason.now) }
@@ -45,13 +98,21 @@ pub fn line_of(alloc: Global, reason: &Reason) -> Result<Line, AllocError>
             return Ok(Line::Made(text));
         }
         Reason::Flow(fault) => return fault_line(alloc, fault),
+        Reason::Schema { name, fault } => {
+            return Ok(Line::Made(schema_line(alloc, name, &fault.cause)?));
+        }
         Reason::NotBuilt {
             what: Unbuilt::Flow,
         } => "whload: flow.toml is not built yet\n",
         Reason::NotBuilt {
             what: Unbuilt::Source,
         } => "whload: source file is not built yet\n",
-        Reason::AlreadyBegun => "whload: table.whl is there already\n",
+        Reason::NotATable { at } => {
+            let text = format!(in alloc; "whload: table.whl is not a table at {at}\n")?;
+            return Ok(Line::Made(text));
+        }
+        Reason::WorkflowDiffers => "whload: table.whl was made by another workflow\n",
+        Reason::Full => "whload: table.whl is full\n",
         Reason::Depot => "whload: a source file failed\n",
         Reason::Disk => "whload: the table file failed\n",
         Reason::Sink => "whload: the output failed\n",
@@ -72,6 +133,43 @@ fn fault_line(alloc: Global, fault: &FlowFault) -> Result<Line, AllocError>
     match fault {
         FlowFault::NotToml => Ok(Line::Fixed("whload: flow.toml is not TOML\n")),
         FlowFault::Shape { place, what } => Ok(Line::Made(shape_line(alloc, place, *what)?)),
+    }
+}
+
+fn schema_line(alloc: Global, name: &Text, cause: &SchemaCause) -> Result<String, AllocError>
+    ensures { IfOk result (λ text. string_bytes text ≡ codes "whload: " ++ (name.now ++ (codes ": " ++ cause_text cause.now)) ++ codes "\n") }
+{
+    let text = node_text(alloc, name, cause)?;
+    format!(in alloc; "whload: {text}\n")
+}
+
+fn node_text(alloc: Global, name: &Text, cause: &SchemaCause) -> Result<String, AllocError>
+    ensures { IfOk result (λ text. string_bytes text ≡ name.now ++ (codes ": " ++ cause_text cause.now)) }
+{
+    let name = name.as_str();
+    let cause = cause_of(alloc, cause)?;
+    format!(in alloc; "{name}: {cause}")
+}
+
+fn cause_of(alloc: Global, cause: &SchemaCause) -> Result<String, AllocError>
+    ensures { IfOk result (λ text. string_bytes text ≡ cause_text cause.now) }
+{
+    match cause {
+        SchemaCause::NameTwice => String::from_str(alloc, "name is used twice"),
+        SchemaCause::NoInput { name } => {
+            let input = name.as_str();
+            format!(in alloc; "no input {input}")
+        }
+        SchemaCause::UsedTwice => String::from_str(alloc, "is used twice"),
+        SchemaCause::NotReached => String::from_str(alloc, "is not reached from the table"),
+        SchemaCause::UnknownColumn { column } => {
+            let column = column.as_str();
+            format!(in alloc; "unknown column {column}")
+        }
+        SchemaCause::DoubleColumn { column } => {
+            let column = column.as_str();
+            format!(in alloc; "column {column} comes twice")
+        }
     }
 }
 

@@ -1,13 +1,70 @@
 // The words of the command line.
-ghost use Rattle.std.specs.Prelude.{◌≡◌, map, string_bytes};
-ghost use Rattle.whload.specs.Words.{is_load};
+ghost use Rattle.std.specs.Prelude.{◌≡◌, ◌≤◌, map, string_bytes, IfSome};
+ghost use Rattle.whload.specs.Words.{begins_with_zero, batch_number, default_batch, given_batch, batch_in};
 
-/// Whether the words are `load DIR`.
-pub fn is_load(words: &[String]) -> bool
-    ensures { result ≡ is_load (map string_bytes words.now) }
+use expr_lang::number_of;
+
+/// How many rows a block has where the words don't say it.
+const BATCH: u32 = 1000;
+
+/// The most rows of a block.
+const MAX_BATCH: i64 = 4096;
+
+/// How many rows a block may have, where the words are `load DIR` or `load DIR --batch N`.
+pub fn batch_in(words: &[String]) -> Option<u32>
+    ensures batch { result ≡ batch_in (map string_bytes words.now) }
+    ensures some { IfSome result (λ batch. 1 ≤ batch) }
+    ensures few { IfSome result (λ batch. batch ≤ 4096) }
 {
     match words {
-        [command, _] => command.as_str() == "load",
-        _ => false,
+        [command, _] => default_batch(command.as_str()),
+        [command, _, option, number] => {
+            given_batch(command.as_str(), option.as_str(), number.as_str())
+        }
+        _ => None,
+    }
+}
+
+fn default_batch(command: &str) -> Option<u32>
+    ensures batch { result ≡ default_batch command.now }
+    ensures some { IfSome result (λ batch. 1 ≤ batch) }
+    ensures few { IfSome result (λ batch. batch ≤ 4096) }
+{
+    if command == "load" { Some(BATCH) } else { None }
+}
+
+fn given_batch(command: &str, option: &str, number: &str) -> Option<u32>
+    ensures batch { result ≡ given_batch command.now option.now number.now }
+    ensures some { IfSome result (λ batch. 1 ≤ batch) }
+    ensures few { IfSome result (λ batch. batch ≤ 4096) }
+{
+    if command == "load" && option == "--batch" {
+        batch_number(number)
+    } else {
+        None
+    }
+}
+
+// A decimal number from 1 to 4,096, without a sign or a leading zero.
+fn batch_number(text: &str) -> Option<u32>
+    ensures batch { result ≡ batch_number text.now }
+    ensures some { IfSome result (λ batch. 1 ≤ batch) }
+    ensures few { IfSome result (λ batch. batch ≤ 4096) }
+{
+    if begins_with_zero(text) {
+        return None;
+    }
+    match number_of(text) {
+        Some(number) if 1 <= number && number <= MAX_BATCH => Some(number as u32),
+        _ => None,
+    }
+}
+
+fn begins_with_zero(text: &str) -> bool
+    ensures { result ≡ begins_with_zero text.now }
+{
+    match text.as_bytes() {
+        [first, ..] => *first == b'0',
+        [] => false,
     }
 }
