@@ -119,12 +119,12 @@ fn a_header_alone_makes_an_ended_table(rt: HostRuntime) -> Result<(), Fail> {
     Ok(())
 }
 
-// An ended table costs the flow file alone.
+// An ended table costs the flow file alone, whether its source is there or not.
 #[test]
 fn a_second_load_adds_nothing(rt: HostRuntime) -> Result<(), Fail> {
     let first = load(rt.alloc(), Some(FLOW), Some(THREE), b"")?;
     let table = first.table.as_slice();
-    let second = load(rt.alloc(), Some(FLOW), Some(THREE), table)?;
+    let second = load(rt.alloc(), Some(FLOW), None, table)?;
     assert_eq!(rt; second.said.as_str(), "0|complete\nbefore 3\nadded 0\n|");
     assert_eq!(rt; second.table.as_slice(), table);
     assert_eq!(rt; second.served, FLOW.len() as u64);
