@@ -61,7 +61,6 @@ fn main() -> Result<(), Box<dyn Error>> {
     let text = fs::read(dir.join("flow.toml"))?;
     let bytes = fs::read(dir.join("nums.csv"))?;
     let rows = read_rows(&bytes)?;
-    let block = encode(&rows);
 
     let mut head = b"WHTABLE".to_vec();
     head.extend_from_slice(&1u32.to_be_bytes());
@@ -74,9 +73,12 @@ fn main() -> Result<(), Box<dyn Error>> {
     file.write_all(&[0])?;
     file.sync_all()?;
     commit(&mut file, 0, &head)?;
-    let first = head.len() as u64;
-    commit(&mut file, first, &block)?;
-    commit(&mut file, first + block.len() as u64, &[1, 0, 0, 0, 0, 0, 0, 0, 0, 0])?;
+    let mut gate = head.len() as u64;
+    for block in rows.chunks(1000).map(encode) {
+        commit(&mut file, gate, &block)?;
+        gate += block.len() as u64;
+    }
+    commit(&mut file, gate, &[1, 0, 0, 0, 0, 0, 0, 0, 0, 0])?;
     println!("complete\nbefore 0\nadded {}", rows.len());
     Ok(())
 }
