@@ -1,12 +1,12 @@
 //! The program: `whload load DIR` loads a CSV file through the folder's flow into its table.
 //!
 //! Stands on all other crates; nothing stands on it. `main` makes the devices and calls `run`,
-//! which does all the rest. Read `specs/Verdict.antt` first: what a load is to load, or the first
-//! refusal; then `specs/Holds.antt`: what rows a table file holds.
+//! which does all the rest. Read `specs/Verdict.antt` first: what there is to be done, or the first
+//! refusal; then `specs/Keepings.antt` and `specs/Answers.antt`: what a load keeps, and what stands after it.
 //!
-//! Promised, on `run`: with Done the table holds exactly the rows that the flow means, ended, and the
-//! report is written; each refusal comes exactly where the verdict is that refusal, and the table
-//! reads as before; a device's fault is answered only where that device failed.
+//! Promised, on `run`: at every moment a crash leaves the committed rows, and behind them only rows that were
+//! missing, in order; with Done all stand, the table is ended, and the report is written; each refusal comes
+//! where it is the first cause; a device's fault is answered only where that device failed.
 //! Not promised: anything of a real file, folder or terminal, and that memory is found.
 #![tactic(auto)]
 

@@ -1,5 +1,6 @@
 // Whole loads over devices in memory.
 use crate::{Ending, run};
+use commit_disk::fits;
 use outside::{MemoryDepot, MemoryDisk, MemorySink};
 use std::alloc::Global;
 use std::fmt::Write;
@@ -481,5 +482,13 @@ fn many_rows_make_many_blocks(rt: HostRuntime) -> Result<(), Fail> {
     let nums = rows(rt.alloc(), 2500)?;
     let left = load(rt.alloc(), Some(FLOW), Some(nums.as_str()), b"")?;
     assert_eq!(rt; left.said.as_str(), "0|complete\nbefore 0\nadded 2500\n|");
+    Ok(())
+}
+
+// The last gate that has room for a block without rows, and the first that hasn't.
+#[test]
+fn a_table_file_has_an_end(rt: HostRuntime) -> Result<(), Fail> {
+    assert_eq!(rt; fits(281_474_976_710_645, 0), true);
+    assert_eq!(rt; fits(281_474_976_710_646, 0), false);
     Ok(())
 }
