@@ -44,20 +44,36 @@ stopped_at_half() {
     wait $! 2> /dev/null || true
 }
 
-bytes=$(size "$work/whole/nums.csv")
-whole=$(seconds "$program" load "$work/whole")
-half=$(($(size "$work/whole/table.whl") / 2))
-unsynced=$(seconds env LD_PRELOAD="$work/no_sync.so" "$program" load "$work/unsynced")
-stopped=$(seconds stopped_at_half)
-resumed=$(seconds "$program" load "$work/stopped")
-twin=$(seconds "$work/target/release/twin" "$work/twin")
-unsynced_twin=$(rm "$work/twin/table.whl" && seconds env LD_PRELOAD="$work/no_sync.so" "$work/target/release/twin" "$work/twin")
-sqlite=$(seconds sqlite3 "$work/sqlite.db" -cmd ".mode csv" ".import $work/twin/nums.csv nums")
-for folder in unsynced stopped twin; do cmp "$work/whole/table.whl" "$work/$folder/table.whl"; done
-awk -v b="$bytes" -v w="$whole" -v u="$unsynced" -v p="$stopped" -v r="$resumed" -v t="$twin" -v n="$unsynced_twin" -v s="$sqlite" 'BEGIN {
-    printf "input %d bytes\n", b
-    printf "whload %.2f s, without syncs %.2f s\n", w, u
-    printf "stopped at half %.2f s, and gone on with %.2f s: ratio to whole %.2f\n", p, r, (p + r) / w
-    printf "twin %.2f s, ratio %.2f; without syncs %.2f s, ratio %.2f\n", t, w / t, n, u / n
-    printf "sqlite %.2f s, ratio %.2f\n", s, w / s
-}'
+sqlite_import() {
+    rm -f "$work/sqlite.db"
+    sqlite3 "$work/sqlite.db" -cmd ".mode csv" ".import $work/twin/nums.csv nums"
+}
+
+unsynced() { env LD_PRELOAD="$work/no_sync.so" "$@"; }
+
+twin="$work/target/release/twin"
+for round in 1 2 3; do
+    rm -f "$work"/*/table.whl
+    whole=$(seconds "$program" load "$work/whole")
+    half=$(($(size "$work/whole/table.whl") / 2))
+    stopped=$(seconds stopped_at_half)
+    resumed=$(seconds "$program" load "$work/stopped")
+    plain=$(seconds "$twin" "$work/twin")
+    imported=$(seconds sqlite_import)
+    for folder in stopped twin; do cmp "$work/whole/table.whl" "$work/$folder/table.whl"; done
+    rm "$work/twin/table.whl"
+    free=$(seconds unsynced "$program" load "$work/unsynced")
+    plain_free=$(seconds unsynced "$twin" "$work/twin")
+    echo "$whole $free $stopped $resumed $plain $plain_free $imported"
+done > "$work/rounds"
+
+# The least of each over the rounds.
+awk -v bytes="$(size "$work/whole/nums.csv")" '
+    { for (i = 1; i <= NF; i++) if (NR == 1 || $i < least[i]) least[i] = $i }
+    END {
+        printf "input %d bytes\n", bytes
+        printf "whload %.2f s, without syncs %.2f s\n", least[1], least[2]
+        printf "stopped at half %.2f s, and gone on with %.2f s: ratio to whole %.2f\n", least[3], least[4], (least[3] + least[4]) / least[1]
+        printf "twin %.2f s, ratio %.2f; without syncs %.2f s, ratio %.2f\n", least[5], least[1] / least[5], least[6], least[2] / least[6]
+        printf "sqlite %.2f s, ratio %.2f\n", least[7], least[1] / least[7]
+    }' "$work/rounds"
