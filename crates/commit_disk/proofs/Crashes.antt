@@ -4,13 +4,14 @@ use Rattle.std.specs.List.{flat_map}
 use Rattle.std.proofs.lemmas.Bool.{cases_lt, true≢false}
 use Rattle.std.proofs.lemmas.List.{take_at, drop_more, get_or_at, append-nil}
 use Rattle.outside.specs.Images.{Torn}
+use Rattle.outside.specs.Disk.{DiskState}
+use Rattle.outside.specs.Passing.{PassesOver}
+use Rattle.outside.specs.Moments.{in_words}
 use Rattle.commit_disk.specs.Table.{Stored, IsStored, Holds, HoldsUpTo, IsNotMade, front, head, opened, rows_block, end_block}
 use Rattle.commit_disk.specs.Buffer.{behind_gate}
 use Rattle.commit_disk.specs.Gate.{HasClosedGate, HasClosedGateAt, KeepsClosed, OpensGate}
 use Rattle.commit_disk.specs.Crashes.{HasStill, Grows}
-use Rattle.commit_disk.specs.Passing.{PassesOver}
 use Rattle.commit_disk.proofs.Tables.{commits, ends, made, length-head}
-use Rattle.commit_disk.proofs.Moments.{in_words}
 use Rattle.commit_disk.proofs.Once.{once}
 
 -- a file that isn't made and has no closed gate is short
@@ -59,24 +60,24 @@ not_both image text blocks ended holds (inl short) =
     omega (arith, ap length holds.spelled, length-append (front text blocks ended) (holds.gate ∷ holds.rest), length-append (opened (head text) ++ body) end, length-append (opened (head text)) body, length-head text)
 not_both image text blocks ended holds (inr shut) = shut (ap (λ (l : List ℕ). get_or l 0 0) holds.spelled)
 
-module _ (place at first last : ℕ) (old behind : List ℕ) (left_at : ℕ → List ℕ → Type 0) where
+module _ (place at : ℕ) (old behind : List ℕ) (before now : DiskState) where
   -- while the gate of a block is opened, over a table whose first closed gate it is
   pub block_passes : (block : Stored) → IsStored block → place ≡ at → behind ≡ behind_gate block → at + 11 + length block.bytes ≤ 2 ^ 48
-      → (HasClosedGateAt place old → PassesOver first last left_at (KeepsClosed place old) (OpensGate place behind old))
-      → (text : List ℕ) (blocks : List Stored) → HoldsUpTo at old text blocks false → PassesOver first last left_at (λ image. Holds image text blocks false) (λ image. Holds image text (blocks ++ block ∷ []) false)
+      → (HasClosedGateAt place old → PassesOver (KeepsClosed place old) (OpensGate place behind old) before now)
+      → (text : List ℕ) (blocks : List Stored) → HoldsUpTo at old text blocks false → PassesOver (λ image. Holds image text blocks false) (λ image. Holds image text (blocks ++ block ∷ []) false) before now
   block_passes block good is writes room passes text blocks was =
       let here : HoldsUpTo place old text blocks false = subst (λ (p : ℕ). HoldsUpTo p old text blocks false) (sym is) was in
-      in_words first last left_at _ _ _ _ (λ image keeps. holds_kept place old image text blocks false here keeps)
+      in_words _ _ _ _ before now (λ image keeps. holds_kept place old image text blocks false here keeps)
       (λ image opens. inr (commits place old image (place + 10 + length block.bytes) block good refl (omega arith) (subst (λ (b : List ℕ). OpensGate place b old image) writes opens) text blocks here).holds)
       (passes (closed_gate place old text blocks false here))
 
   -- while the gate of the end block is opened
   pub end_passes : place ≡ at → behind ≡ end_block ++ 0 ∷ [] → at + 11 ≤ 2 ^ 48
-      → (HasClosedGateAt place old → PassesOver first last left_at (KeepsClosed place old) (OpensGate place behind old))
-      → (text : List ℕ) (blocks : List Stored) → HoldsUpTo at old text blocks false → PassesOver first last left_at (λ image. Holds image text blocks false) (λ image. Holds image text blocks true)
+      → (HasClosedGateAt place old → PassesOver (KeepsClosed place old) (OpensGate place behind old) before now)
+      → (text : List ℕ) (blocks : List Stored) → HoldsUpTo at old text blocks false → PassesOver (λ image. Holds image text blocks false) (λ image. Holds image text blocks true) before now
   end_passes is writes room passes text blocks was =
       let here : HoldsUpTo place old text blocks false = subst (λ (p : ℕ). HoldsUpTo p old text blocks false) (sym is) was in
-      in_words first last left_at _ _ _ _ (λ image keeps. holds_kept place old image text blocks false here keeps)
+      in_words _ _ _ _ before now (λ image keeps. holds_kept place old image text blocks false here keeps)
       (λ image opens. inr (ends place old image (place + 10) refl (omega arith) (subst (λ (b : List ℕ). OpensGate place b old image) writes opens) text blocks here).holds)
       (passes (closed_gate place old text blocks false here))
 
@@ -114,31 +115,23 @@ has_none text old image was either = record {
   ended = λ had has. absurd (not_both old text had true has was);
 }
 
-module _ (text : List ℕ) (first last : ℕ) (left_at : ℕ → List ℕ → Type 0) where
+module _ (text : List ℕ) (before now : DiskState) where
   -- where the images pass over, and keep what the first had, nothing is lost
-  grows : (Before After : List ℕ → Type 0) → ((old image : List ℕ) → Before old → Before image ⊎ After image → HasStill text old image) → PassesOver first last left_at Before After → Grows text first last left_at
+  grows : (Before After : List ℕ → Type 0) → ((old image : List ℕ) → Before old → Before image ⊎ After image → HasStill text old image) → PassesOver Before After before now → Grows text before now
   grows Before After still passes = record {
     keeps = λ u v from le to image it.
         elim (passes.ordered u v from le to) [
           | inl fewer ↦ (image, fewer image it, has_itself text image)
-          | inr before ↦ (before.0, before.1, still before.0 image before.2 (passes.either image (v, omega arith, to, it)))
+          | inr some ↦ (some.0, some.1, still some.0 image some.2 (passes.either image (v, omega arith, to, it)))
         ];
   }
 
-  -- within one moment
-  pub grows_at : first ≡ last → Grows text first last left_at
-  grows_at one = record {
-    keeps = λ u v from le to image it.
-        let same : v ≡ u = omega arith in
-        (image, subst (λ (m : ℕ). left_at m image) same it, has_itself text image);
-  }
-
   -- where a table passes over to one with more blocks or an end
-  pub grows_by : (blocks longer more : List Stored) (ended : Bool) → longer ≡ blocks ++ more → PassesOver first last left_at (λ image. Holds image text blocks false) (λ image. Holds image text longer ended) → Grows text first last left_at
+  pub grows_by : (blocks longer more : List Stored) (ended : Bool) → longer ≡ blocks ++ more → PassesOver (λ image. Holds image text blocks false) (λ image. Holds image text longer ended) before now → Grows text before now
   grows_by blocks longer more ended is = grows _ _ (λ old image. has_more text old image blocks longer more ended is)
 
   -- and where a table is made
-  pub grows_made : PassesOver first last left_at IsNotMade (λ image. Holds image text [] false) → Grows text first last left_at
+  pub grows_made : PassesOver IsNotMade (λ image. Holds image text [] false) before now → Grows text before now
   grows_made = grows _ _ (has_none text)
 
 -- while the made gate is opened

@@ -1,11 +1,9 @@
 pub mod Buffers
 pub mod Gates
 pub mod Tables
-pub mod Moments
 pub mod Torn
 pub mod Crashes
 pub mod Once
 pub mod Frames
 pub mod Leads
-pub mod OnlyReads
 pub mod Verdicts

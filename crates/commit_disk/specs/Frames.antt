@@ -1,8 +1,7 @@
 -- What the parts of attaching tell, head by head.
-use Rattle.std.specs.Prelude.{◌≡◌, ◌≢◌, ◌≤◌, ◌<◌, ◌+◌, ℕ, List, [], ◌∷◌, ◌++◌, length, slice_index, Bool, true, false, IsTrue, Option, Some, None, Result, Ok, Err}
+use Rattle.std.specs.Prelude.{◌≡◌, ◌≢◌, ◌≤◌, ◌<◌, ◌+◌, ℕ, List, [], ◌∷◌, ◌++◌, length, slice_index, Bool, true, false, Option, Some, None, Result, Ok, Err}
 use Rattle.std.specs.Int.{w32, to_be_bytes}
 use Rattle.outside.specs.Counts.{Rose}
-use Rattle.outside.specs.Images.{SameImages}
 use Rattle.commit_disk.specs.declared.attaching.TableFault.{TableFault}
 use Rattle.commit_disk.specs.declared.attaching.TableFault.TheVariants.{Disk, NotATable, WorkflowDiffers}
 use Rattle.commit_disk.specs.declared.attaching.Attached.{Attached}
@@ -10,18 +9,7 @@ use Rattle.commit_disk.specs.declared.attaching.BlockHead.{BlockHead}
 use Rattle.commit_disk.specs.declared.attaching.BlockHead.TheVariants.{Rows, End}
 use Rattle.commit_disk.specs.Table.{Stored, IsNotMade, end_block}
 use Rattle.commit_disk.specs.Journal.{JournalState}
-use Rattle.commit_disk.specs.Crashes.{GoesOn, NothingNew}
 use Rattle.commit_disk.specs.Attach.{LeadsTo, IsWrongAt, TellsOf, FindTells, FaultTells, rows_in}
-
--- the disk was only read
-pub record OnlyRead {D : Type 0} (len : D → ℕ) (honest : D → Bool) (seen : D → List ℕ) (may_leave : D → List ℕ → Type 0) (clock : D → ℕ) (left_at : D → ℕ → List ℕ → Type 0) (faults : D → ℕ) (old new : D) : Type 0 where
-  pub same_len : len new ≡ len old
-  pub still_honest : honest new ≡ honest old
-  pub same_file : IsTrue (honest old) → seen new ≡ seen old
-  pub same_images : IsTrue (honest old) → SameImages (may_leave old) (may_leave new)
-  pub time : IsTrue (honest old) → GoesOn (clock old) (clock new) (left_at old) (left_at new)
-  pub nothing_new : IsTrue (honest old) → NothingNew (clock old) (clock new) (left_at new) (may_leave old)
-  pub later : faults old ≤ faults new
 
 -- the count of faults has not fallen, and a fault of the disk was answered only where it rose
 pub record HasDiskCause {T : Type 0} (before now : ℕ) (result : Result T TableFault) : Type 0 where

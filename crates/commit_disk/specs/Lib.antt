@@ -3,6 +3,6 @@ pub mod Journal
 pub mod Buffer
 pub mod Gate
 pub mod Crashes
-pub mod Passing
 pub mod Attach
 pub mod Frames
+pub mod Growth

@@ -1,14 +1,12 @@
 // Attaching a table: its head and its gates are read, and none of its rows.
-ghost use Rattle.std.specs.Prelude.{◌≡◌, ◌≢◌, ◌≤◌, ◌<◌, ◌+◌, ◌^◌, ◌↔◌, [], ℕ, List, length, take, drop, min, slice_index, IsTrue, IsErrOf, IfOk, IfSome, OnOk, OnErr, true, false};
+ghost use Rattle.std.specs.Prelude.{◌≡◌, ◌≢◌, ◌≤◌, ◌<◌, ◌+◌, ◌^◌, ◌↔◌, ◌⊎◌, [], ℕ, List, length, take, drop, min, slice_index, IsTrue, IsErrOf, IfOk, IfSome, OnOk, OnErr, true, false};
 ghost use Rattle.std.specs.Int.{w32, to_be_bytes, from_be_bytes};
-ghost use Rattle.outside.specs.Counts.{HasCause, Rose};
-ghost use Rattle.outside.specs.Disk.{Told};
+ghost use Rattle.outside.specs.Words.{HasCause, Rose, TellsSize, Elapses, Keeps, Syncs, LeavesNothingNew, OnlyReads};
 ghost use Rattle.tuple_schema.specs.Stops.{IfFault};
 ghost use Rattle.tuple_schema.specs.declared.memory.Stop.TheVariants as stop;
 ghost use Rattle.commit_disk.specs.declared.attaching.TableFault.TheVariants as fault;
-ghost use Rattle.commit_disk.specs.Attach.{LeadsTo, HasName, AttachTells, IsWithin, IsSound};
-ghost use Rattle.commit_disk.specs.Crashes.{IsSettled, GoesOn, NothingNew};
-ghost use Rattle.commit_disk.specs.Frames.{OnlyRead, HasDiskCause, HeadTells, BlockTells, IsOnTheWay, PassTells, GateTells, GatesTell, FoundTells};
+ghost use Rattle.commit_disk.specs.Attach.{LeadsTo, HasName, AttachTells, IsVerdict, IsWithin, IsSound};
+ghost use Rattle.commit_disk.specs.Frames.{HasDiskCause, HeadTells, BlockTells, IsOnTheWay, PassTells, GateTells, GatesTell, FoundTells};
 
 use crate::gate::{CLOSED, MADE_GATE, OPEN};
 use crate::journal::VERSION;
@@ -61,20 +59,19 @@ pub fn attach<K: Disk>(
     disk: &mut K,
     text: &[u8],
 ) -> Result<Attached, Stop<TableFault>>
-    ensures tells { IsTrue (K.honest disk.old) → AttachTells result (K.seen disk.old) text.now }
-    ensures within { IfOk result (λ found. IsWithin found (K.len disk.new)) }
+    ensures tells { IsTrue (K.state disk.old).honest → AttachTells result (K.state disk.old).file text.now }
+    ensures within { IfOk result (λ found. IsWithin found (K.state disk.new).size) }
     ensures sound { IfOk result IsSound }
-    ensures settled { OnOk result (IsTrue (K.honest disk.old) → IsSettled (K.seen disk.new) (K.may_leave disk.new)) }
-    ensures same { OnOk result (IsTrue (K.honest disk.old) → K.seen disk.new ≡ K.seen disk.old) }
+    // Where the bytes were judged, nothing is pending; else the images are as they were, or nothing is pending.
+    ensures settled { IsVerdict result → Syncs (K.state disk.old) (K.state disk.new) }
+    ensures barrier { Keeps (K.state disk.old) (K.state disk.new) ⊎ Syncs (K.state disk.old) (K.state disk.new) }
 
     // A crash at any moment of the call leaves what one before it might have left.
-    ensures any_moment { IsTrue (K.honest disk.old) → NothingNew (K.clock disk.old) (K.clock disk.new) (K.left_at disk.new) (K.may_leave disk.old) }
-    ensures time { IsTrue (K.honest disk.old) → GoesOn (K.clock disk.old) (K.clock disk.new) (K.left_at disk.old) (K.left_at disk.new) }
+    ensures nothing_new { LeavesNothingNew (K.state disk.old) (K.state disk.new) }
+    ensures elapses { Elapses (K.state disk.old) (K.state disk.new) }
 
     ensures memory { IsErrOf result stop.Memory → disk.new ≡ disk.old }
-    ensures cause { IfFault result (λ found. found ≡ fault.Disk → Rose (K.faults disk.old) (K.faults disk.new)) }
-    ensures later { K.faults disk.old ≤ K.faults disk.new }
-    ensures honest { K.honest disk.new ≡ K.honest disk.old }
+    ensures cause { IfFault result (λ found. found ≡ fault.Disk → Rose (K.state disk.old).faults (K.state disk.new).faults) }
 {
     let mut copy = text.to_vec(alloc)?;
     Ok(settle_and_read(disk, text, &mut copy)?)
@@ -175,13 +172,13 @@ fn pass_block(journal: &mut Journal, head: &[u8; 10], room: u64) -> Result<(), T
 // Reads the first bytes of a block, as many as there are.
 fn read_block_head<K: Disk>(disk: &mut K, gate: u64, size: u64) -> Result<[u8; 10], Failed>
     requires within { gate < size }
-    requires len { size ≤ K.len disk.old }
-    ensures gate { IfOk result (λ head. IsTrue (K.honest disk.old) → size ≡ length (K.seen disk.old)
-        → slice_index head 0 ≡ slice_index (K.seen disk.old) gate) }
-    ensures bytes { IfOk result (λ head. IsTrue (K.honest disk.old) → size ≡ length (K.seen disk.old)
-        → gate + 10 ≤ size → head ≡ take 10 (drop gate (K.seen disk.old))) }
-    ensures read { OnlyRead K.len K.honest K.seen K.may_leave K.clock K.left_at K.faults disk.old disk.new }
-    ensures cause { HasCause (K.faults disk.old) (K.faults disk.new) result }
+    requires size { size ≤ (K.state disk.old).size }
+    ensures gate { IfOk result (λ head. IsTrue (K.state disk.old).honest → size ≡ length (K.state disk.old).file
+        → slice_index head 0 ≡ slice_index (K.state disk.old).file gate) }
+    ensures bytes { IfOk result (λ head. IsTrue (K.state disk.old).honest → size ≡ length (K.state disk.old).file
+        → gate + 10 ≤ size → head ≡ take 10 (drop gate (K.state disk.old).file)) }
+    ensures read { OnlyReads (K.state disk.old) (K.state disk.new) }
+    ensures cause { HasCause (K.state disk.old).faults (K.state disk.new).faults result }
 {
     let mut head = [CLOSED; 10];
     let len = (size - gate).min(10) as usize;
@@ -192,13 +189,13 @@ fn read_block_head<K: Disk>(disk: &mut K, gate: u64, size: u64) -> Result<[u8; 1
 // Goes on from a gate to the next, where it is open. Answers whether it was.
 fn pass_gate<K: Disk>(disk: &mut K, size: u64, journal: &mut Journal) -> Result<bool, TableFault>
     requires within { journal.old.gate < size }
-    requires len { size ≤ K.len disk.old }
-    ensures tells { IsTrue (K.honest disk.old) → size ≡ length (K.seen disk.old)
-        → (text : List ℕ) → IsOnTheWay journal.old (K.seen disk.old) text → GateTells result journal.new (K.seen disk.old) text }
+    requires size { size ≤ (K.state disk.old).size }
+    ensures tells { IsTrue (K.state disk.old).honest → size ≡ length (K.state disk.old).file
+        → (text : List ℕ) → IsOnTheWay journal.old (K.state disk.old).file text → GateTells result journal.new (K.state disk.old).file text }
     ensures within { OnOk result (journal.new.gate < size) }
     ensures onward { IfOk result (λ passed. IsTrue passed → journal.old.gate < journal.new.gate) }
-    ensures read { OnlyRead K.len K.honest K.seen K.may_leave K.clock K.left_at K.faults disk.old disk.new }
-    ensures cause { HasDiskCause (K.faults disk.old) (K.faults disk.new) result }
+    ensures read { OnlyReads (K.state disk.old) (K.state disk.new) }
+    ensures cause { HasDiskCause (K.state disk.old).faults (K.state disk.new).faults result }
     ensures sound { journal.new.sound ≡ journal.old.sound }
 {
     let gate = journal.gate();
@@ -216,13 +213,13 @@ fn pass_gate<K: Disk>(disk: &mut K, size: u64, journal: &mut Journal) -> Result<
 fn read_gates<K: Disk>(disk: &mut K, size: u64, first: u64) -> Result<Journal, TableFault>
     requires within { first < size }
     requires room { first < 2 ^ 48 }
-    requires len { size ≤ K.len disk.old }
-    ensures tells { IsTrue (K.honest disk.old) → size ≡ length (K.seen disk.old)
-        → (text : List ℕ) → first ≡ 16 + length text → LeadsTo first (K.seen disk.old) text [] false → GatesTell result (K.seen disk.old) text }
+    requires size { size ≤ (K.state disk.old).size }
+    ensures tells { IsTrue (K.state disk.old).honest → size ≡ length (K.state disk.old).file
+        → (text : List ℕ) → first ≡ 16 + length text → LeadsTo first (K.state disk.old).file text [] false → GatesTell result (K.state disk.old).file text }
     ensures within { IfOk result (λ journal. journal.gate < size) }
     ensures sound { IfOk result (λ journal. journal.sound ≡ true) }
-    ensures read { OnlyRead K.len K.honest K.seen K.may_leave K.clock K.left_at K.faults disk.old disk.new }
-    ensures cause { HasDiskCause (K.faults disk.old) (K.faults disk.new) result }
+    ensures read { OnlyReads (K.state disk.old) (K.state disk.new) }
+    ensures cause { HasDiskCause (K.state disk.old).faults (K.state disk.new).faults result }
 {
     let mut journal = Journal::new(first);
     while pass_gate(disk, size, &mut journal)? {}
@@ -231,11 +228,11 @@ fn read_gates<K: Disk>(disk: &mut K, size: u64, first: u64) -> Result<Journal, T
 
 // Reads the head. Answers the length of its flow text, or None where no table is made.
 fn read_head<K: Disk>(disk: &mut K, size: u64) -> Result<Option<u32>, TableFault>
-    requires { size ≤ K.len disk.old }
-    ensures tells { IsTrue (K.honest disk.old) → size ≡ length (K.seen disk.old) → HeadTells result (K.seen disk.old) }
+    requires { size ≤ (K.state disk.old).size }
+    ensures tells { IsTrue (K.state disk.old).honest → size ≡ length (K.state disk.old).file → HeadTells result (K.state disk.old).file }
     ensures fits { IfOk result (λ len. IfSome len (λ n. (17 + n ≤ size) × (n ≤ MAX_FLOW_BYTES))) }
-    ensures read { OnlyRead K.len K.honest K.seen K.may_leave K.clock K.left_at K.faults disk.old disk.new }
-    ensures cause { HasDiskCause (K.faults disk.old) (K.faults disk.new) result }
+    ensures read { OnlyReads (K.state disk.old) (K.state disk.new) }
+    ensures cause { HasDiskCause (K.state disk.old).faults (K.state disk.new).faults result }
 {
     if size < 17 {
         return Ok(None);
@@ -248,11 +245,11 @@ fn read_head<K: Disk>(disk: &mut K, size: u64) -> Result<Option<u32>, TableFault
 // Whether the flow text in the head, of so many bytes, is this one, of which a copy is read over.
 fn has_text<K: Disk>(disk: &mut K, len: u32, text: &[u8], copy: &mut [u8]) -> Result<bool, Failed>
     requires copy { length copy.old ≡ length text.now }
-    requires len { 16 + len ≤ K.len disk.old }
-    ensures same { IfOk result (λ same. IsTrue (K.honest disk.old) → 16 + len ≤ length (K.seen disk.old)
-        → IsTrue same ↔ (take len (drop 16 (K.seen disk.old)) ≡ text.now)) }
-    ensures read { OnlyRead K.len K.honest K.seen K.may_leave K.clock K.left_at K.faults disk.old disk.new }
-    ensures cause { HasCause (K.faults disk.old) (K.faults disk.new) result }
+    requires size { 16 + len ≤ (K.state disk.old).size }
+    ensures same { IfOk result (λ same. IsTrue (K.state disk.old).honest → 16 + len ≤ length (K.state disk.old).file
+        → IsTrue same ↔ (take len (drop 16 (K.state disk.old).file) ≡ text.now)) }
+    ensures read { OnlyReads (K.state disk.old) (K.state disk.new) }
+    ensures cause { HasCause (K.state disk.old).faults (K.state disk.new).faults result }
 {
     if len as usize != text.len() {
         return Ok(false);
@@ -263,13 +260,12 @@ fn has_text<K: Disk>(disk: &mut K, len: u32, text: &[u8], copy: &mut [u8]) -> Re
 
 // Makes all that was written safe, and tells the file's length.
 fn settled_size<K: Disk>(disk: &mut K) -> Result<u64, Failed>
-    ensures told { IfOk result (λ size. Told (K.honest disk.old) (K.seen disk.new) (K.len disk.new) size) }
-    ensures settled { OnOk result (IsTrue (K.honest disk.old) → IsSettled (K.seen disk.new) (K.may_leave disk.new)) }
-    ensures same { OnOk result (IsTrue (K.honest disk.old) → K.seen disk.new ≡ K.seen disk.old) }
-    ensures nothing_new { IsTrue (K.honest disk.old) → NothingNew (K.clock disk.old) (K.clock disk.new) (K.left_at disk.new) (K.may_leave disk.old) }
-    ensures time { IsTrue (K.honest disk.old) → GoesOn (K.clock disk.old) (K.clock disk.new) (K.left_at disk.old) (K.left_at disk.new) }
-    ensures honest { K.honest disk.new ≡ K.honest disk.old }
-    ensures cause { HasCause (K.faults disk.old) (K.faults disk.new) result }
+    ensures told { IfOk result (λ size. TellsSize (K.state disk.new) size) }
+    ensures settled { OnOk result (Syncs (K.state disk.old) (K.state disk.new)) }
+    ensures barrier { Keeps (K.state disk.old) (K.state disk.new) ⊎ Syncs (K.state disk.old) (K.state disk.new) }
+    ensures nothing_new { LeavesNothingNew (K.state disk.old) (K.state disk.new) }
+    ensures elapses { Elapses (K.state disk.old) (K.state disk.new) }
+    ensures cause { HasCause (K.state disk.old).faults (K.state disk.new).faults result }
 {
     disk.sync()?;
     disk.size()
@@ -283,12 +279,12 @@ fn read_table<K: Disk>(
     copy: &mut [u8],
 ) -> Result<Attached, TableFault>
     requires copy { length copy.old ≡ length text.now }
-    requires len { size ≤ K.len disk.old }
-    ensures tells { IsTrue (K.honest disk.old) → size ≡ length (K.seen disk.old) → FoundTells result (K.seen disk.old) text.now }
+    requires size { size ≤ (K.state disk.old).size }
+    ensures tells { IsTrue (K.state disk.old).honest → size ≡ length (K.state disk.old).file → FoundTells result (K.state disk.old).file text.now }
     ensures within { IfOk result (λ found. IsWithin found size) }
     ensures sound { IfOk result IsSound }
-    ensures read { OnlyRead K.len K.honest K.seen K.may_leave K.clock K.left_at K.faults disk.old disk.new }
-    ensures cause { HasDiskCause (K.faults disk.old) (K.faults disk.new) result }
+    ensures read { OnlyReads (K.state disk.old) (K.state disk.new) }
+    ensures cause { HasDiskCause (K.state disk.old).faults (K.state disk.new).faults result }
 {
     let Some(len) = read_head(disk, size)? else {
         return Ok(Attached::NotMade);
@@ -307,15 +303,14 @@ fn settle_and_read<K: Disk>(
     copy: &mut [u8],
 ) -> Result<Attached, TableFault>
     requires { length copy.old ≡ length text.now }
-    ensures tells { IsTrue (K.honest disk.old) → FoundTells result (K.seen disk.old) text.now }
-    ensures within { IfOk result (λ found. IsWithin found (K.len disk.new)) }
+    ensures tells { IsTrue (K.state disk.old).honest → FoundTells result (K.state disk.old).file text.now }
+    ensures within { IfOk result (λ found. IsWithin found (K.state disk.new).size) }
     ensures sound { IfOk result IsSound }
-    ensures settled { OnOk result (IsTrue (K.honest disk.old) → IsSettled (K.seen disk.new) (K.may_leave disk.new)) }
-    ensures same { OnOk result (IsTrue (K.honest disk.old) → K.seen disk.new ≡ K.seen disk.old) }
-    ensures nothing_new { IsTrue (K.honest disk.old) → NothingNew (K.clock disk.old) (K.clock disk.new) (K.left_at disk.new) (K.may_leave disk.old) }
-    ensures time { IsTrue (K.honest disk.old) → GoesOn (K.clock disk.old) (K.clock disk.new) (K.left_at disk.old) (K.left_at disk.new) }
-    ensures honest { K.honest disk.new ≡ K.honest disk.old }
-    ensures cause { HasDiskCause (K.faults disk.old) (K.faults disk.new) result }
+    ensures settled { result ≢ Err fault.Disk → Syncs (K.state disk.old) (K.state disk.new) }
+    ensures barrier { Keeps (K.state disk.old) (K.state disk.new) ⊎ Syncs (K.state disk.old) (K.state disk.new) }
+    ensures nothing_new { LeavesNothingNew (K.state disk.old) (K.state disk.new) }
+    ensures elapses { Elapses (K.state disk.old) (K.state disk.new) }
+    ensures cause { HasDiskCause (K.state disk.old).faults (K.state disk.new).faults result }
 {
     let size = settled_size(disk)?;
     read_table(disk, size, text, copy)

@@ -1,12 +1,11 @@
 // The journal of a table: where its gates are, and the calls that add to it.
 ghost use Rattle.std.specs.Prelude.{◌≡◌, ◌≤◌, ◌<◌, ◌+◌, ◌^◌, ◌↔◌, [], ◌∷◌, ◌++◌, ℕ, List, length, vec_len, IsTrue, IsErrOf, IfOk, OnOk, OnErr, true, false};
-ghost use Rattle.outside.specs.Counts.{HasCause, Rose};
+ghost use Rattle.outside.specs.Words.{HasCause, Rose, Each, Elapses, IsSettled, LeftBetween, PassesOver};
 ghost use Rattle.tuple_schema.specs.Stops.{IfFault};
 ghost use Rattle.tuple_schema.specs.declared.memory.Stop.TheVariants as stop;
 ghost use Rattle.commit_disk.specs.Table.{Stored, Holds, HoldsUpTo, IsNotMade, head};
 ghost use Rattle.commit_disk.specs.Journal.{new_journal, after_block, after_end, Commits, Ends};
-ghost use Rattle.commit_disk.specs.Crashes.{IsSettled, LeftBetween, Each, GoesOn, IsEmptyOrNotMade, LeavesWhole, LeavesEnd, Grows};
-ghost use Rattle.commit_disk.specs.Passing.{PassesOver};
+ghost use Rattle.commit_disk.specs.Crashes.{IsEmptyOrNotMade, LeavesWhole, LeavesEnd, Grows};
 
 use crate::gate::{CLOSED, MADE_GATE, close_made_gate, open_gate};
 use crate::{Block, MAX_ROWS};
@@ -123,25 +122,24 @@ impl Journal {
         requires unended { self.old.ended ≡ false }
         requires some { 1 ≤ block.now.count }
         requires fits { self.old.gate + 11 + length block.now.bytes ≤ MAX_SIZE }
-        requires place { self.old.gate < K.len disk.old }
+        requires place { self.old.gate < (K.state disk.old).size }
 
         ensures moved { OnOk result (self.new ≡ after_block self.old block.now) }
-        ensures done { OnOk result (IsTrue (K.honest disk.old)
-            → Commits self.old.gate self.new.gate block.now (K.seen disk.old) (K.seen disk.new)) }
-        ensures len { OnOk result (self.new.gate < K.len disk.new) }
+        ensures done { OnOk result (IsTrue (K.state disk.old).honest
+            → Commits self.old.gate self.new.gate block.now (K.state disk.old).file (K.state disk.new).file) }
+        ensures size { OnOk result (self.new.gate < (K.state disk.new).size) }
 
-        ensures settled { OnOk result (IsTrue (K.honest disk.old) → IsSettled (K.seen disk.new) (K.may_leave disk.new)) }
+        ensures settled { OnOk result (IsTrue (K.state disk.old).honest → IsSettled (K.state disk.new)) }
         // A crash at any moment of the call leaves the blocks from before it, or those and this one whole.
-        ensures any_moment { IsTrue (K.honest disk.old) → IsSettled (K.seen disk.old) (K.may_leave disk.old)
-            → LeavesWhole self.old.gate block.now (K.seen disk.old) (LeftBetween (K.clock disk.old) (K.clock disk.new) (K.left_at disk.new)) }
-        ensures grows { IsTrue (K.honest disk.old) → IsSettled (K.seen disk.old) (K.may_leave disk.old)
-            → (text : List ℕ) (blocks : List Stored) → HoldsUpTo self.old.gate (K.seen disk.old) text blocks false
-            → Grows text (K.clock disk.old) (K.clock disk.new) (K.left_at disk.new) }
-        ensures time { IsTrue (K.honest disk.old) → GoesOn (K.clock disk.old) (K.clock disk.new) (K.left_at disk.old) (K.left_at disk.new) }
+        ensures any_moment { IsTrue (K.state disk.old).honest → IsSettled (K.state disk.old)
+            → LeavesWhole self.old.gate block.now (K.state disk.old).file (LeftBetween (K.state disk.old) (K.state disk.new)) }
+        ensures grows { IsTrue (K.state disk.old).honest → IsSettled (K.state disk.old)
+            → (text : List ℕ) (blocks : List Stored) → HoldsUpTo self.old.gate (K.state disk.old).file text blocks false
+            → Grows text (K.state disk.old) (K.state disk.new) }
+        ensures elapses { Elapses (K.state disk.old) (K.state disk.new) }
 
         ensures unsound { OnErr result (self.new ≡ record self.old { sound = false }) }
-        ensures honest { K.honest disk.new ≡ K.honest disk.old }
-        ensures cause { HasCause (K.faults disk.old) (K.faults disk.new) result }
+        ensures cause { HasCause (K.state disk.old).faults (K.state disk.new).faults result }
     {
         self.sound = false;
         open_gate(disk, self.gate, block.behind_gate())?;
@@ -155,25 +153,24 @@ impl Journal {
         requires sound { IsTrue self.old.sound }
         requires unended { self.old.ended ≡ false }
         requires fits { self.old.gate + 11 ≤ MAX_SIZE }
-        requires place { self.old.gate < K.len disk.old }
+        requires place { self.old.gate < (K.state disk.old).size }
 
         ensures moved { OnOk result (self.new ≡ after_end self.old) }
-        ensures done { OnOk result (IsTrue (K.honest disk.old)
-            → Ends self.old.gate self.new.gate (K.seen disk.old) (K.seen disk.new)) }
-        ensures len { OnOk result (self.new.gate < K.len disk.new) }
+        ensures done { OnOk result (IsTrue (K.state disk.old).honest
+            → Ends self.old.gate self.new.gate (K.state disk.old).file (K.state disk.new).file) }
+        ensures size { OnOk result (self.new.gate < (K.state disk.new).size) }
 
-        ensures settled { OnOk result (IsTrue (K.honest disk.old) → IsSettled (K.seen disk.new) (K.may_leave disk.new)) }
+        ensures settled { OnOk result (IsTrue (K.state disk.old).honest → IsSettled (K.state disk.new)) }
         // A crash at any moment of the call leaves the blocks from before it, ended or not.
-        ensures any_moment { IsTrue (K.honest disk.old) → IsSettled (K.seen disk.old) (K.may_leave disk.old)
-            → LeavesEnd self.old.gate (K.seen disk.old) (LeftBetween (K.clock disk.old) (K.clock disk.new) (K.left_at disk.new)) }
-        ensures grows { IsTrue (K.honest disk.old) → IsSettled (K.seen disk.old) (K.may_leave disk.old)
-            → (text : List ℕ) (blocks : List Stored) → HoldsUpTo self.old.gate (K.seen disk.old) text blocks false
-            → Grows text (K.clock disk.old) (K.clock disk.new) (K.left_at disk.new) }
-        ensures time { IsTrue (K.honest disk.old) → GoesOn (K.clock disk.old) (K.clock disk.new) (K.left_at disk.old) (K.left_at disk.new) }
+        ensures any_moment { IsTrue (K.state disk.old).honest → IsSettled (K.state disk.old)
+            → LeavesEnd self.old.gate (K.state disk.old).file (LeftBetween (K.state disk.old) (K.state disk.new)) }
+        ensures grows { IsTrue (K.state disk.old).honest → IsSettled (K.state disk.old)
+            → (text : List ℕ) (blocks : List Stored) → HoldsUpTo self.old.gate (K.state disk.old).file text blocks false
+            → Grows text (K.state disk.old) (K.state disk.new) }
+        ensures elapses { Elapses (K.state disk.old) (K.state disk.new) }
 
         ensures unsound { OnErr result (self.new ≡ record self.old { sound = false }) }
-        ensures honest { K.honest disk.new ≡ K.honest disk.old }
-        ensures cause { HasCause (K.faults disk.old) (K.faults disk.new) result }
+        ensures cause { HasCause (K.state disk.old).faults (K.state disk.new).faults result }
     {
         self.sound = false;
         open_gate(disk, self.gate, &END)?;
@@ -193,25 +190,23 @@ pub fn fits(gate: u64, rows_len: u32) -> bool
 /// Makes a table of this flow text with no rows. Where no memory is found, nothing is done.
 pub fn make<K: Disk>(alloc: Global, disk: &mut K, text: &[u8]) -> Result<Journal, Stop<Failed>>
     requires short { length text.now ≤ MAX_FLOW_BYTES }
-    requires not_made { IsTrue (K.honest disk.old) → IsNotMade (K.seen disk.old) }
+    requires not_made { IsTrue (K.state disk.old).honest → IsNotMade (K.state disk.old).file }
 
     ensures journal { IfOk result (λ journal. journal ≡ new_journal text.now) }
-    ensures done { IfOk result (λ journal. IsTrue (K.honest disk.old)
-        → HoldsUpTo journal.gate (K.seen disk.new) text.now [] false) }
-    ensures len { IfOk result (λ journal. journal.gate < K.len disk.new) }
+    ensures done { IfOk result (λ journal. IsTrue (K.state disk.old).honest
+        → HoldsUpTo journal.gate (K.state disk.new).file text.now [] false) }
+    ensures size { IfOk result (λ journal. journal.gate < (K.state disk.new).size) }
 
-    ensures settled { OnOk result (IsTrue (K.honest disk.old) → IsSettled (K.seen disk.new) (K.may_leave disk.new)) }
+    ensures settled { OnOk result (IsTrue (K.state disk.old).honest → IsSettled (K.state disk.new)) }
     // A crash at any moment of the call leaves no table yet, or this one.
-    ensures any_moment { IsTrue (K.honest disk.old) → IsSettled (K.seen disk.old) (K.may_leave disk.old)
-        → Each (LeftBetween (K.clock disk.old) (K.clock disk.new) (K.left_at disk.new)) (IsEmptyOrNotMade text.now) }
-    ensures grows { IsTrue (K.honest disk.old) → IsSettled (K.seen disk.old) (K.may_leave disk.old)
-        → Grows text.now (K.clock disk.old) (K.clock disk.new) (K.left_at disk.new) }
-    ensures time { IsTrue (K.honest disk.old) → GoesOn (K.clock disk.old) (K.clock disk.new) (K.left_at disk.old) (K.left_at disk.new) }
+    ensures any_moment { IsTrue (K.state disk.old).honest → IsSettled (K.state disk.old)
+        → Each (LeftBetween (K.state disk.old) (K.state disk.new)) (IsEmptyOrNotMade text.now) }
+    ensures grows { IsTrue (K.state disk.old).honest → IsSettled (K.state disk.old)
+        → Grows text.now (K.state disk.old) (K.state disk.new) }
+    ensures elapses { Elapses (K.state disk.old) (K.state disk.new) }
 
     ensures memory { IsErrOf result stop.Memory → disk.new ≡ disk.old }
-    ensures cause { IfFault result (λ _. Rose (K.faults disk.old) (K.faults disk.new)) }
-    ensures later { K.faults disk.old ≤ K.faults disk.new }
-    ensures honest { K.honest disk.new ≡ K.honest disk.old }
+    ensures cause { IfFault result (λ _. Rose (K.state disk.old).faults (K.state disk.new).faults) }
 {
     let behind = head_bytes(alloc, text)?;
     write_head(disk, &behind)?;
@@ -221,16 +216,15 @@ pub fn make<K: Disk>(alloc: Global, disk: &mut K, text: &[u8]) -> Result<Journal
 // Writes a table whose head is behind the made gate, over a file that is no table.
 fn write_head<K: Disk>(disk: &mut K, behind: &[u8]) -> Result<(), Failed>
     requires { 1 + length behind.now ≤ 2 ^ 48 }
-    ensures done { OnOk result (IsTrue (K.honest disk.old) → (text : List ℕ) → length text ≤ 65536 → behind.now ≡ head text ++ 0 ∷ []
-        → HoldsUpTo (16 + length text) (K.seen disk.new) text [] false) }
-    ensures len { OnOk result (length behind.now < K.len disk.new) }
-    ensures settled { OnOk result (IsTrue (K.honest disk.old) → IsSettled (K.seen disk.new) (K.may_leave disk.new)) }
-    ensures passes { IsTrue (K.honest disk.old) → IsSettled (K.seen disk.old) (K.may_leave disk.old) → IsNotMade (K.seen disk.old)
+    ensures done { OnOk result (IsTrue (K.state disk.old).honest → (text : List ℕ) → length text ≤ 65536 → behind.now ≡ head text ++ 0 ∷ []
+        → HoldsUpTo (16 + length text) (K.state disk.new).file text [] false) }
+    ensures size { OnOk result (length behind.now < (K.state disk.new).size) }
+    ensures settled { OnOk result (IsTrue (K.state disk.old).honest → IsSettled (K.state disk.new)) }
+    ensures passes { IsTrue (K.state disk.old).honest → IsSettled (K.state disk.old) → IsNotMade (K.state disk.old).file
         → (text : List ℕ) → length text ≤ 65536 → behind.now ≡ head text ++ 0 ∷ []
-        → PassesOver (K.clock disk.old) (K.clock disk.new) (K.left_at disk.new) IsNotMade (λ image. Holds image text [] false) }
-    ensures time { IsTrue (K.honest disk.old) → GoesOn (K.clock disk.old) (K.clock disk.new) (K.left_at disk.old) (K.left_at disk.new) }
-    ensures honest { K.honest disk.new ≡ K.honest disk.old }
-    ensures cause { HasCause (K.faults disk.old) (K.faults disk.new) result }
+        → PassesOver IsNotMade (λ image. Holds image text [] false) (K.state disk.old) (K.state disk.new) }
+    ensures elapses { Elapses (K.state disk.old) (K.state disk.new) }
+    ensures cause { HasCause (K.state disk.old).faults (K.state disk.new).faults result }
 {
     close_made_gate(disk)?;
     open_gate(disk, MADE_GATE, behind)
@@ -241,7 +235,7 @@ fn write_head<K: Disk>(disk: &mut K, behind: &[u8]) -> Result<(), Failed>
 fn head_bytes(alloc: Global, text: &[u8]) -> Result<Vec<u8>, Memory>
     requires { length text.now ≤ MAX_FLOW_BYTES }
     ensures bytes { IfOk result (λ behind. behind.items ≡ head text.now ++ 0 ∷ []) }
-    ensures len { IfOk result (λ behind. vec_len behind ≡ 16 + length text.now) }
+    ensures size { IfOk result (λ behind. vec_len behind ≡ 16 + length text.now) }
 {
     let mut behind = b"WHTABLE".to_vec(alloc)?;
     behind.extend_from_slice(&VERSION.to_be_bytes())?;

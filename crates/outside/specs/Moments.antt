@@ -164,6 +164,13 @@ pub sync_leaves : {E : Type 0} (result : Result (Unit {0}) E) (old new : DiskSta
 sync_leaves (Ok u) old new is syncs keeps = λ image it. subst old.may_leave (sym (syncs.settled is image it ∙ syncs.file is)) (old.reads_image is)
 sync_leaves (Err e) old new is syncs keeps = λ image it. (keeps.images is image).1 it
 
+-- what is safe stays safe where nothing is written
+pub synced_still : (one two three : DiskState) → Elapses one two → Syncs one two → Keeps two three → Syncs one three
+synced_still one two three earlier syncs keeps = record {
+  file = λ is. keeps.file (earlier.honest ∙ is) ∙ syncs.file is;
+  settled = λ is image left. let still = earlier.honest ∙ is in syncs.settled is image ((keeps.images still image).1 left) ∙ sym (keeps.file still);
+}
+
 -- Nothing new.
 
 -- images that pass over from none leave nothing new, and the other way round

@@ -1,9 +1,8 @@
 // One block of a table.
 ghost use Rattle.std.specs.Prelude.{◌≡◌, ◌≤◌, ◌<◌, ◌+◌, ◌^◌, ◌∷◌, ◌++◌, [], ℕ, List, length, take, drop, IsTrue, IfOk, IfErr, OnOk};
 ghost use Rattle.std.specs.Int.{w32, from_be_bytes};
-ghost use Rattle.outside.specs.Disk.{Reads};
+ghost use Rattle.outside.specs.Words.{Reads, OnlyReads};
 ghost use Rattle.tuple_schema.specs.Stops.{IfFault};
-ghost use Rattle.commit_disk.specs.Frames.{OnlyRead};
 ghost use Rattle.commit_disk.specs.Table.{Stored};
 ghost use Rattle.table_read.specs.Rows.{block_rows, next_gate};
 ghost use Rattle.table_read.specs.Places.{Verifies, wrong_place, IsCaused, IsDisk};
@@ -37,10 +36,10 @@ fn number_at(bytes: &[u8; HEAD], at: usize) -> u32
 
 // Reads the bytes at that place.
 fn read<K: Disk>(disk: &mut K, at: u64, into: &mut [u8]) -> Result<(), TableFault>
-    requires { at + length into.old ≤ K.len disk.old }
-    ensures bytes { OnOk result (IsTrue (K.honest disk.old) → Reads (K.seen disk.old) at into.new) }
-    ensures only_read { OnlyRead K.len K.honest K.seen K.may_leave K.clock K.left_at K.faults disk.old disk.new }
-    ensures cause { IfErr result (IsDisk (K.faults disk.old) (K.faults disk.new)) }
+    requires { at + length into.old ≤ (K.state disk.old).size }
+    ensures bytes { OnOk result (Reads (K.state disk.old) at into.new) }
+    ensures only_read { OnlyReads (K.state disk.old) (K.state disk.new) }
+    ensures cause { IfErr result (IsDisk (K.state disk.old).faults (K.state disk.new).faults) }
 {
     disk.read_at(at, into)?;
     Ok(())
@@ -49,11 +48,11 @@ fn read<K: Disk>(disk: &mut K, at: u64, into: &mut [u8]) -> Result<(), TableFaul
 // Reads the head of the block at a gate, which has to end by the last gate.
 fn read_head<K: Disk>(disk: &mut K, gate: u64, last: u64) -> Result<BlockHead, TableFault>
     requires place { gate ≤ last }
-    requires len { last ≤ K.len disk.old }
-    ensures head { IsTrue (K.honest disk.old) → (block : Stored) → HasBlock (K.seen disk.old) gate last block → HeadTells result block }
+    requires size { last ≤ (K.state disk.old).size }
+    ensures head { IsTrue (K.state disk.old).honest → (block : Stored) → HasBlock (K.state disk.old).file gate last block → HeadTells result block }
     ensures within { IfOk result (λ head. gate + 10 + head.len ≤ last) }
-    ensures only_read { OnlyRead K.len K.honest K.seen K.may_leave K.clock K.left_at K.faults disk.old disk.new }
-    ensures cause { IfErr result (IsCaused (K.faults disk.old) (K.faults disk.new)) }
+    ensures only_read { OnlyReads (K.state disk.old) (K.state disk.new) }
+    ensures cause { IfErr result (IsCaused (K.state disk.old).faults (K.state disk.new).faults) }
 {
     let room = last - gate;
     if room < HEAD as u64 {
@@ -79,16 +78,16 @@ pub fn verify_block<K: Disk>(
     buffer: &mut Vec<u8>,
 ) -> Result<u64, Stop<TableFault>>
     requires place { gate ≤ last }
-    requires len { last ≤ K.len disk.old }
+    requires size { last ≤ (K.state disk.old).size }
     requires room { last < 2 ^ 48 }
-    ensures rows { IsTrue (K.honest disk.old) → (block : Stored) → HasBlock (K.seen disk.old) gate last block
+    ensures rows { IsTrue (K.state disk.old).honest → (block : Stored) → HasBlock (K.state disk.old).file gate last block
         → Verifies result (wrong_place (block_rows schema.now gate block)) }
-    ensures next { IsTrue (K.honest disk.old) → (block : Stored) → HasBlock (K.seen disk.old) gate last block
+    ensures next { IsTrue (K.state disk.old).honest → (block : Stored) → HasBlock (K.state disk.old).file gate last block
         → IfOk result (λ next. next ≡ next_gate gate block) }
     ensures onward { IfOk result (λ next. gate < next) }
     ensures within { IfOk result (λ next. next ≤ last) }
-    ensures only_read { OnlyRead K.len K.honest K.seen K.may_leave K.clock K.left_at K.faults disk.old disk.new }
-    ensures cause { IfFault result (IsCaused (K.faults disk.old) (K.faults disk.new)) }
+    ensures only_read { OnlyReads (K.state disk.old) (K.state disk.new) }
+    ensures cause { IfFault result (IsCaused (K.state disk.old).faults (K.state disk.new).faults) }
 {
     let head = read_head(disk, gate, last)?;
     let first = gate + HEAD as u64;

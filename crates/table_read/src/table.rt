@@ -1,10 +1,8 @@
 // Verifying that the rows of a table decode.
 ghost use Rattle.std.specs.Prelude.{◌≡◌, ◌≤◌, ◌<◌, ◌^◌, ℕ, List, IsTrue};
-ghost use Rattle.outside.specs.Disk.{Kept};
-ghost use Rattle.outside.specs.Images.{SameImages};
+ghost use Rattle.outside.specs.Words.{OnlyReads};
 ghost use Rattle.tuple_schema.specs.Stops.{IfFault};
 ghost use Rattle.commit_disk.specs.Attach.{TellsOf};
-ghost use Rattle.commit_disk.specs.Crashes.{GoesOn, NothingNew};
 ghost use Rattle.table_read.specs.Rows.{table_rows};
 ghost use Rattle.table_read.specs.Places.{Verifies, wrong_place, IsCaused};
 
@@ -28,19 +26,13 @@ pub fn verify<K: Disk>(
     journal: &Journal,
     schema: &Schema,
 ) -> Result<(), Stop<TableFault>>
-    requires place { journal.now.gate < K.len disk.old }
+    requires place { journal.now.gate < (K.state disk.old).size }
 
     // Of the table that the journal tells of.
-    ensures rows { IsTrue (K.honest disk.old) → (text : List ℕ) → (table : TellsOf journal.now (K.seen disk.old) text)
+    ensures rows { IsTrue (K.state disk.old).honest → (text : List ℕ) → (table : TellsOf journal.now (K.state disk.old).file text)
         → Verifies result (wrong_place (table_rows schema.now journal.now.first table.blocks)) }
-    ensures cause { IfFault result (IsCaused (K.faults disk.old) (K.faults disk.new)) }
-
-    ensures kept { Kept (K.honest disk.old) (K.honest disk.new) (K.seen disk.old) (K.seen disk.new) }
-    ensures len { K.len disk.new ≡ K.len disk.old }
-    ensures images { IsTrue (K.honest disk.old) → SameImages (K.may_leave disk.old) (K.may_leave disk.new) }
-    ensures time { IsTrue (K.honest disk.old) → GoesOn (K.clock disk.old) (K.clock disk.new) (K.left_at disk.old) (K.left_at disk.new) }
-    ensures nothing_new { IsTrue (K.honest disk.old) → NothingNew (K.clock disk.old) (K.clock disk.new) (K.left_at disk.new) (K.may_leave disk.old) }
-    ensures later { K.faults disk.old ≤ K.faults disk.new }
+    ensures cause { IfFault result (IsCaused (K.state disk.old).faults (K.state disk.new).faults) }
+    ensures only_read { OnlyReads (K.state disk.old) (K.state disk.new) }
 {
     let mut buffer = Vec::new(alloc);
     let mut gate = journal.first();

@@ -1,6 +1,5 @@
 pub mod Cuts
 pub mod Rows
-pub mod Moments
 pub mod Fronts
 pub mod Adding
 pub mod BlockRows

@@ -1,5 +1,5 @@
 -- A table to which blocks are added.
-use Rattle.std.specs.Prelude.{◌≡◌, ◌≤◌, ◌<◌, ◌+◌, ◌^◌, ℕ, List, [], ◌++◌, length, take, map, slice_index_or, All, Bool, IsTrue, false}
+use Rattle.std.specs.Prelude.{◌≡◌, ◌⊎◌, ◌≤◌, ◌<◌, ◌+◌, ◌^◌, ℕ, List, [], ◌++◌, length, take, map, slice_index_or, All, Bool, IsTrue, true, false}
 use Rattle.std.specs.List.{sum_by}
 use Rattle.tuple_schema.specs.declared.value.Value.{Value}
 use Rattle.tuple_schema.specs.declared.schema.Column.{Column}
@@ -7,7 +7,8 @@ use Rattle.row_codec.specs.Rows.{rows_bytes}
 use Rattle.row_codec.specs.Decoding.{IsRowOf}
 use Rattle.commit_disk.specs.Table.{Stored, Holds, HoldsUpTo}
 use Rattle.commit_disk.specs.Journal.{JournalState}
-use Rattle.commit_disk.specs.Crashes.{IsSettled, LeftBetween, Each, Grows}
+use Rattle.outside.specs.Words.{DiskState, Each, IsSettled, LeftBetween}
+use Rattle.commit_disk.specs.Crashes.{Grows}
 use Rattle.table_write.specs.Cut.{together}
 use Rattle.table_write.specs.Rows.{stored_of}
 
@@ -24,10 +25,22 @@ pub record IsFront (text : List ℕ) (columns : List Column) (olds : List Stored
   pub whole : IsTrue ended → count ≡ length blocks
   pub of_columns : All (IsRowOf columns) (together (take count blocks))
 
--- from the first of these moments to the last a crash leaves the old blocks and the first of the new ones, and nothing that it left once is lost
-pub record LeavesFronts (text : List ℕ) (columns : List Column) (olds : List Stored) (blocks : List (List (List Value))) (first last : ℕ) (left_at : ℕ → List ℕ → Type 0) : Type 0 where
-  pub each : Each (LeftBetween first last left_at) (IsFront text columns olds blocks)
-  pub grows : Grows text first last left_at
+-- from the one state to the other a crash leaves the old blocks and the first of the new ones, and nothing that it left once is lost
+pub record LeavesFronts (text : List ℕ) (columns : List Column) (olds : List Stored) (blocks : List (List (List Value))) (old new : DiskState) : Type 0 where
+  pub each : Each (LeftBetween old new) (IsFront text columns olds blocks)
+  pub grows : Grows text old new
+
+-- behind so many of the new blocks the image holds one step more: the next block, or the end behind all of them
+abbrev pub IsStepOn : List ℕ → List Stored → List (List (List Value)) → ℕ → List ℕ → Type 0
+IsStepOn text olds blocks count image =
+    ((count < length blocks) × Holds image text (with_blocks olds (take (count + 1) blocks)) false)
+    ⊎ ((count ≡ length blocks) × Holds image text (with_blocks olds blocks) true)
+
+-- it stopped behind so many of the new blocks: each image holds these behind the old ones, and some may hold one step more
+pub record StopsBetween (text : List ℕ) (olds : List Stored) (blocks : List (List (List Value))) (images : List ℕ → Type 0) : Type 0 where
+  pub count : ℕ
+  pub within : count ≤ length blocks
+  pub each : Each images (λ image. Holds image text (with_blocks olds (take count blocks)) false ⊎ IsStepOn text olds blocks count image)
 
 -- how many bytes these blocks take: a gate and nine bytes of head each, and their rows
 abbrev pub size_of : List (List (List Value)) → ℕ
@@ -56,16 +69,16 @@ pub record IsFullBehind (gate : ℕ) (blocks : List (List (List Value))) (count 
   pub none : HasRoom gate blocks count → ⊥
 
 -- these blocks, which have rows of the columns, were added to the table of the old journal, and the new journal tells of it
-pub record HasAdded {D : Type 0} (len : D → ℕ) (honest : D → Bool) (seen : D → List ℕ) (may_leave : D → List ℕ → Type 0) (columns : List Column) (blocks : List (List (List Value))) (before now : JournalState) (old new : D) : Type 0 where
+pub record HasAdded (columns : List Column) (blocks : List (List (List Value))) (before now : JournalState) (old new : DiskState) : Type 0 where
   pub of_columns : All (IsRowOf columns) (together blocks)
   pub moved : now ≡ behind before blocks
-  pub place : now.gate < len new
-  pub settled : IsTrue (honest old) → IsSettled (seen old) (may_leave old) → IsSettled (seen new) (may_leave new)
-  pub holds : IsTrue (honest old) → (text : List ℕ) (olds : List Stored) → HoldsUpTo before.gate (seen old) text olds false
-      → HoldsUpTo now.gate (seen new) text (with_blocks olds blocks) false
+  pub place : now.gate < new.size
+  pub settled : IsTrue old.honest → IsSettled old → IsSettled new
+  pub holds : IsTrue old.honest → (text : List ℕ) (olds : List Stored) → HoldsUpTo before.gate old.file text olds false
+      → HoldsUpTo now.gate new.file text (with_blocks olds blocks) false
 
 -- the table is full behind so many of these blocks, which were added
-pub record IsFilled {D : Type 0} (len : D → ℕ) (honest : D → Bool) (seen : D → List ℕ) (may_leave : D → List ℕ → Type 0) (columns : List Column) (blocks : List (List (List Value))) (before now : JournalState) (old new : D) : Type 0 where
+pub record IsFilled (columns : List Column) (blocks : List (List (List Value))) (before now : JournalState) (old new : DiskState) : Type 0 where
   pub count : ℕ
   pub full : IsFullBehind before.gate blocks count
-  pub added : HasAdded len honest seen may_leave columns (take count blocks) before now old new
+  pub added : HasAdded columns (take count blocks) before now old new

@@ -1,15 +1,15 @@
 // Writing rows to a table.
 ghost use Rattle.std.specs.Prelude.{◌≡◌, ◌≤◌, ◌<◌, ◌+◌, ◌*◌, ◌^◌, ℕ, List, length, IsTrue, IsErrOf, IfOk, OnOk, All, true, false};
-ghost use Rattle.outside.specs.Counts.{Rose};
+ghost use Rattle.outside.specs.Words.{Rose, Elapses, IsSettled, LeftBetween};
 ghost use Rattle.tuple_schema.specs.Schemas.{Fits};
 ghost use Rattle.row_codec.specs.Decoding.{IsRowOf};
 ghost use Rattle.row_codec.specs.Rows.{AreNumbers};
 ghost use Rattle.commit_disk.specs.Table.{Stored, HoldsUpTo};
 ghost use Rattle.commit_disk.specs.Journal.{after_block, after_end, Commits};
-ghost use Rattle.commit_disk.specs.Crashes.{IsSettled, LeftBetween, GoesOn, LeavesWhole, Grows};
+ghost use Rattle.commit_disk.specs.Crashes.{LeavesWhole, Grows};
 ghost use Rattle.table_write.specs.declared.writer.WriteFault.TheVariants as fault;
 ghost use Rattle.table_write.specs.Cut.{cut};
-ghost use Rattle.table_write.specs.Adds.{with_blocks, LeavesFronts, behind, HasRoom, AllHaveRoom, HasAdded, IsFilled};
+ghost use Rattle.table_write.specs.Adds.{with_blocks, LeavesFronts, StopsBetween, behind, HasRoom, AllHaveRoom, HasAdded, IsFilled};
 
 use crate::fill::fill;
 use commit_disk::{Block, Journal, MAX_ROWS, fits};
@@ -78,7 +78,7 @@ impl Writer {
     ) -> Result<(), WriteFault>
         requires sound { IsTrue journal.old.sound }
         requires unended { journal.old.ended ≡ false }
-        requires place { journal.old.gate < K.len disk.old }
+        requires place { journal.old.gate < (K.state disk.old).size }
         requires fit { All (λ row. Fits schema.now row) rows.now }
         requires numbers { AreNumbers schema.now }
         requires room { 9 * length schema.now ≤ self.old }
@@ -88,27 +88,29 @@ impl Writer {
         ensures of_columns { OnOk result (All (IsRowOf schema.now) rows.now) }
         ensures moved { OnOk result (journal.new ≡ after_end (behind journal.old (cut batch rows.now))) }
         ensures count { OnOk result (journal.new.count ≡ journal.old.count + length rows.now) }
-        ensures done { OnOk result (IsTrue (K.honest disk.old) → (text : List ℕ) (olds : List Stored)
-            → HoldsUpTo journal.old.gate (K.seen disk.old) text olds false
-            → HoldsUpTo journal.new.gate (K.seen disk.new) text (with_blocks olds (cut batch rows.now)) true) }
-        ensures settled { OnOk result (IsTrue (K.honest disk.old) → IsSettled (K.seen disk.new) (K.may_leave disk.new)) }
-        ensures len { OnOk result (journal.new.gate < K.len disk.new) }
+        ensures done { OnOk result (IsTrue (K.state disk.old).honest → (text : List ℕ) (olds : List Stored)
+            → HoldsUpTo journal.old.gate (K.state disk.old).file text olds false
+            → HoldsUpTo journal.new.gate (K.state disk.new).file text (with_blocks olds (cut batch rows.now)) true) }
+        ensures settled { OnOk result (IsTrue (K.state disk.old).honest → IsSettled (K.state disk.new)) }
+        ensures size { OnOk result (journal.new.gate < (K.state disk.new).size) }
 
         // A crash at any moment of the call leaves the old blocks and the first of the new ones.
-        ensures any_moment { IsTrue (K.honest disk.old) → IsSettled (K.seen disk.old) (K.may_leave disk.old)
-            → (text : List ℕ) (olds : List Stored) → HoldsUpTo journal.old.gate (K.seen disk.old) text olds false
-            → LeavesFronts text schema.now olds (cut batch rows.now) (K.clock disk.old) (K.clock disk.new) (K.left_at disk.new) }
-        ensures time { IsTrue (K.honest disk.old) → GoesOn (K.clock disk.old) (K.clock disk.new) (K.left_at disk.old) (K.left_at disk.new) }
+        ensures any_moment { IsTrue (K.state disk.old).honest → IsSettled (K.state disk.old)
+            → (text : List ℕ) (olds : List Stored) → HoldsUpTo journal.old.gate (K.state disk.old).file text olds false
+            → LeavesFronts text schema.now olds (cut batch rows.now) (K.state disk.old) (K.state disk.new) }
+        // Where the disk failed, each image holds the old blocks and so many of the new ones, or one step more.
+        ensures stops { IsErrOf result fault.Disk → IsTrue (K.state disk.old).honest → IsSettled (K.state disk.old)
+            → (text : List ℕ) (olds : List Stored) → HoldsUpTo journal.old.gate (K.state disk.old).file text olds false
+            → StopsBetween text olds (cut batch rows.now) (K.state disk.new).may_leave }
+        ensures elapses { Elapses (K.state disk.old) (K.state disk.new) }
 
         // Unless the disk fails, Ok comes exactly where all blocks have room, and else Full.
         ensures all_fit { OnOk result (AllHaveRoom journal.old.gate (cut batch rows.now)) }
         ensures full { IsErrOf result fault.Full
-            → IsFilled K.len K.honest K.seen K.may_leave schema.now (cut batch rows.now) journal.old journal.new disk.old disk.new }
+            → IsFilled schema.now (cut batch rows.now) journal.old journal.new (K.state disk.old) (K.state disk.new) }
 
         ensures unsound { IsErrOf result fault.Disk → journal.new.sound ≡ false }
-        ensures cause { IsErrOf result fault.Disk → Rose (K.faults disk.old) (K.faults disk.new) }
-        ensures later { K.faults disk.old ≤ K.faults disk.new }
-        ensures honest { K.honest disk.new ≡ K.honest disk.old }
+        ensures cause { IsErrOf result fault.Disk → Rose (K.state disk.old).faults (K.state disk.new).faults }
         ensures room { self.old ≤ self.new }
     {
         self.append_blocks(journal, disk, schema, rows, batch)?;
@@ -130,27 +132,28 @@ impl Writer {
     ) -> Result<(), WriteFault>
         requires sound { IsTrue journal.old.sound }
         requires unended { journal.old.ended ≡ false }
-        requires place { journal.old.gate < K.len disk.old }
+        requires place { journal.old.gate < (K.state disk.old).size }
         requires fit { All (λ row. Fits schema.now row) rows.now }
         requires numbers { AreNumbers schema.now }
         requires room { 9 * length schema.now ≤ self.old }
         requires some { 1 ≤ batch }
         requires few { batch ≤ MAX_ROWS }
 
-        ensures added { OnOk result (HasAdded K.len K.honest K.seen K.may_leave schema.now (cut batch rows.now) journal.old journal.new disk.old disk.new) }
-        ensures any_moment { IsTrue (K.honest disk.old) → IsSettled (K.seen disk.old) (K.may_leave disk.old)
-            → (text : List ℕ) (olds : List Stored) → HoldsUpTo journal.old.gate (K.seen disk.old) text olds false
-            → LeavesFronts text schema.now olds (cut batch rows.now) (K.clock disk.old) (K.clock disk.new) (K.left_at disk.new) }
-        ensures time { IsTrue (K.honest disk.old) → GoesOn (K.clock disk.old) (K.clock disk.new) (K.left_at disk.old) (K.left_at disk.new) }
+        ensures added { OnOk result (HasAdded schema.now (cut batch rows.now) journal.old journal.new (K.state disk.old) (K.state disk.new)) }
+        ensures any_moment { IsTrue (K.state disk.old).honest → IsSettled (K.state disk.old)
+            → (text : List ℕ) (olds : List Stored) → HoldsUpTo journal.old.gate (K.state disk.old).file text olds false
+            → LeavesFronts text schema.now olds (cut batch rows.now) (K.state disk.old) (K.state disk.new) }
+        ensures stops { IsErrOf result fault.Disk → IsTrue (K.state disk.old).honest → IsSettled (K.state disk.old)
+            → (text : List ℕ) (olds : List Stored) → HoldsUpTo journal.old.gate (K.state disk.old).file text olds false
+            → StopsBetween text olds (cut batch rows.now) (K.state disk.new).may_leave }
+        ensures elapses { Elapses (K.state disk.old) (K.state disk.new) }
 
         ensures each_fits { OnOk result ((count : ℕ) → count < length (cut batch rows.now) → HasRoom journal.old.gate (cut batch rows.now) count) }
         ensures full { IsErrOf result fault.Full
-            → IsFilled K.len K.honest K.seen K.may_leave schema.now (cut batch rows.now) journal.old journal.new disk.old disk.new }
+            → IsFilled schema.now (cut batch rows.now) journal.old journal.new (K.state disk.old) (K.state disk.new) }
 
         ensures unsound { IsErrOf result fault.Disk → journal.new.sound ≡ false }
-        ensures cause { IsErrOf result fault.Disk → Rose (K.faults disk.old) (K.faults disk.new) }
-        ensures later { K.faults disk.old ≤ K.faults disk.new }
-        ensures honest { K.honest disk.new ≡ K.honest disk.old }
+        ensures cause { IsErrOf result fault.Disk → Rose (K.state disk.old).faults (K.state disk.new).faults }
         ensures room { self.old ≤ self.new }
     {
         let mut rest = rows;
@@ -172,29 +175,27 @@ fn commit_block<K: Disk>(
     requires sound { IsTrue journal.old.sound }
     requires unended { journal.old.ended ≡ false }
     requires some { 1 ≤ block.now.count }
-    requires place { journal.old.gate < K.len disk.old }
+    requires place { journal.old.gate < (K.state disk.old).size }
 
     ensures moved { OnOk result (journal.new ≡ after_block journal.old block.now) }
-    ensures done { OnOk result (IsTrue (K.honest disk.old)
-        → Commits journal.old.gate journal.new.gate block.now (K.seen disk.old) (K.seen disk.new)) }
-    ensures len { OnOk result (journal.new.gate < K.len disk.new) }
-    ensures settled { OnOk result (IsTrue (K.honest disk.old) → IsSettled (K.seen disk.new) (K.may_leave disk.new)) }
+    ensures done { OnOk result (IsTrue (K.state disk.old).honest
+        → Commits journal.old.gate journal.new.gate block.now (K.state disk.old).file (K.state disk.new).file) }
+    ensures size { OnOk result (journal.new.gate < (K.state disk.new).size) }
+    ensures settled { OnOk result (IsTrue (K.state disk.old).honest → IsSettled (K.state disk.new)) }
 
-    ensures any_moment { IsTrue (K.honest disk.old) → IsSettled (K.seen disk.old) (K.may_leave disk.old)
-        → LeavesWhole journal.old.gate block.now (K.seen disk.old) (LeftBetween (K.clock disk.old) (K.clock disk.new) (K.left_at disk.new)) }
-    ensures grows { IsTrue (K.honest disk.old) → IsSettled (K.seen disk.old) (K.may_leave disk.old)
-        → (text : List ℕ) (blocks : List Stored) → HoldsUpTo journal.old.gate (K.seen disk.old) text blocks false
-        → Grows text (K.clock disk.old) (K.clock disk.new) (K.left_at disk.new) }
-    ensures time { IsTrue (K.honest disk.old) → GoesOn (K.clock disk.old) (K.clock disk.new) (K.left_at disk.old) (K.left_at disk.new) }
+    ensures any_moment { IsTrue (K.state disk.old).honest → IsSettled (K.state disk.old)
+        → LeavesWhole journal.old.gate block.now (K.state disk.old).file (LeftBetween (K.state disk.old) (K.state disk.new)) }
+    ensures grows { IsTrue (K.state disk.old).honest → IsSettled (K.state disk.old)
+        → (text : List ℕ) (blocks : List Stored) → HoldsUpTo journal.old.gate (K.state disk.old).file text blocks false
+        → Grows text (K.state disk.old) (K.state disk.new) }
+    ensures elapses { Elapses (K.state disk.old) (K.state disk.new) }
 
     ensures fits { OnOk result (journal.old.gate + 11 + length block.now.bytes ≤ MAX_SIZE) }
     ensures full { IsErrOf result fault.Full → MAX_SIZE < journal.old.gate + 11 + length block.now.bytes }
     ensures still { IsErrOf result fault.Full → (journal.new ≡ journal.old) × (disk.new ≡ disk.old) }
 
     ensures unsound { IsErrOf result fault.Disk → journal.new.sound ≡ false }
-    ensures cause { IsErrOf result fault.Disk → Rose (K.faults disk.old) (K.faults disk.new) }
-    ensures later { K.faults disk.old ≤ K.faults disk.new }
-    ensures honest { K.honest disk.new ≡ K.honest disk.old }
+    ensures cause { IsErrOf result fault.Disk → Rose (K.state disk.old).faults (K.state disk.new).faults }
 {
     if !fits(journal.gate(), block.len()) {
         return Err(WriteFault::Full);

@@ -1,6 +1,7 @@
 use Rattle.std.proofs.Common.{◌≡◌, ◌<◌, ◌+◌, ◌-◌, [], ℕ, List, length, true, false, IsTrue}
 use Rattle.commit_disk.specs.Attach.{LeadsTo}
-use Rattle.commit_disk.specs.Frames.{OnlyRead, IsOnTheWay}
+use Rattle.outside.specs.Disk.{OnlyReads}
+use Rattle.commit_disk.specs.Frames.{IsOnTheWay}
 use Rattle.commit_disk.proofs.attaching.read_gates.Given as goal
 
 abbrev pub invariant-loop : goal.invariant-loop
@@ -8,9 +9,9 @@ invariant-loop g l =
     record {
       within : l.journal.gate < l.size;
       sound : l.journal.sound ≡ true;
-      read : OnlyRead g.K.Disk.len g.K.Disk.honest g.K.Disk.seen g.K.Disk.may_leave g.K.Disk.clock g.K.Disk.left_at g.K.Disk.faults l.fn.disk l.disk;
-      way : IsTrue (g.K.Disk.honest l.fn.disk) → l.size ≡ length (g.K.Disk.seen l.fn.disk) → (text : List ℕ) → l.first ≡ 16 + length text → LeadsTo l.first (g.K.Disk.seen l.fn.disk) text [] false
-          → IsOnTheWay l.journal (g.K.Disk.seen l.fn.disk) text;
+      read : OnlyReads (g.K.Disk.state l.fn.disk) (g.K.Disk.state l.disk);
+      way : IsTrue (g.K.Disk.state l.fn.disk).honest → l.size ≡ length (g.K.Disk.state l.fn.disk).file → (text : List ℕ) → l.first ≡ 16 + length text → LeadsTo l.first (g.K.Disk.state l.fn.disk).file text [] false
+          → IsOnTheWay l.journal (g.K.Disk.state l.fn.disk).file text;
     }
 
 abbrev pub decreases-loop : goal.decreases-loop

@@ -3,7 +3,7 @@ use Rattle.std.proofs.lemmas.List.{take_at}
 use Rattle.std.proofs.lemmas.Result.{err_from_is_err_and}
 use Rattle.table_read.specs.Places.{Verifies}
 use Rattle.table_read.proofs.Standing.{rows_same, head_stops}
-use Rattle.table_read.proofs.OnlyReads.{and_read}
+use Rattle.outside.specs.Moments.{read_on}
 use Rattle.table_read.proofs.blocks.verify_block.Goals as goal
 
 pub returns-in_err-head-clause-rows : goal.returns-in_err-head-clause-rows
@@ -18,7 +18,7 @@ returns-in_err-verify_rows-clause-rows g c = λ honest block has.
     let sized : length c.read.new.into ≡ c.resize.new.self.len = omega (arith, c.deref_mut.ensures.len, c.read.auto.into) in
     let long : length c.read.new.into ≡ length block.bytes = omega (arith, sized, c.in_ok-resize.ensures.len, head.1) in
     let same = rows_same c.args.schema.now c.in_ok-head.head.count c.args.gate c.args.last _ _ c.deref.result.now c.read.new.into block has head.0 long
-    (only.same_file honest) (c.in_ok-read.ensures.bytes (only.still_honest ∙ honest)) (c.deref.ensures.value ∙ take_at c.read.new.into _ c.resize.new.self.len sized) in
+    (only.keeps.file honest) (c.in_ok-read.ensures.bytes (only.elapses.honest ∙ honest)) (c.deref.ensures.value ∙ take_at c.read.new.into _ c.resize.new.self.len sized) in
     let p = err_from_is_err_and c.from_residual-in_err-verify_rows.result c.from_residual-in_err-verify_rows.ensures.1 in
     rw (p.1, p.2) (subst (λ (wrong : Option ℕ). Verifies {X = ℕ} (Err c.in_err-verify_rows.field-0.0) wrong) same c.in_err-verify_rows.ensures.rows)
 
@@ -29,14 +29,14 @@ returns-clause-rows g c = λ honest block has.
     let sized : length c.read.new.into ≡ c.resize.new.self.len = omega (arith, c.deref_mut.ensures.len, c.read.auto.into) in
     let long : length c.read.new.into ≡ length block.bytes = omega (arith, sized, c.in_ok-resize.ensures.len, head.1) in
     let same = rows_same c.args.schema.now c.in_ok-head.head.count c.args.gate c.args.last _ _ c.deref.result.now c.read.new.into block has head.0 long
-    (only.same_file honest) (c.in_ok-read.ensures.bytes (only.still_honest ∙ honest)) (c.deref.ensures.value ∙ take_at c.read.new.into _ c.resize.new.self.len sized) in
+    (only.keeps.file honest) (c.in_ok-read.ensures.bytes (only.elapses.honest ∙ honest)) (c.deref.ensures.value ∙ take_at c.read.new.into _ c.resize.new.self.len sized) in
     sym same ∙ c.in_ok-verify_rows.ensures.rows
 
 pub returns-in_err-read-clause-only_read : goal.returns-in_err-read-clause-only_read
-returns-in_err-read-clause-only_read g c = and_read g.K.Disk.len g.K.Disk.honest g.K.Disk.seen g.K.Disk.may_leave g.K.Disk.clock g.K.Disk.left_at g.K.Disk.faults g.met.K.Disk.left_now c.args.disk.now c.read_head.new.disk c.read.new.disk c.read_head.ensures.only_read c.read.ensures.only_read
+returns-in_err-read-clause-only_read g c = read_on _ _ _ c.read_head.ensures.only_read c.read.ensures.only_read
 
 pub returns-in_err-verify_rows-clause-only_read : goal.returns-in_err-verify_rows-clause-only_read
-returns-in_err-verify_rows-clause-only_read g c = and_read g.K.Disk.len g.K.Disk.honest g.K.Disk.seen g.K.Disk.may_leave g.K.Disk.clock g.K.Disk.left_at g.K.Disk.faults g.met.K.Disk.left_now c.args.disk.now c.read_head.new.disk c.read.new.disk c.read_head.ensures.only_read c.read.ensures.only_read
+returns-in_err-verify_rows-clause-only_read g c = read_on _ _ _ c.read_head.ensures.only_read c.read.ensures.only_read
 
 pub returns-clause-only_read : goal.returns-clause-only_read
-returns-clause-only_read g c = and_read g.K.Disk.len g.K.Disk.honest g.K.Disk.seen g.K.Disk.may_leave g.K.Disk.clock g.K.Disk.left_at g.K.Disk.faults g.met.K.Disk.left_now c.args.disk.now c.read_head.new.disk c.read.new.disk c.read_head.ensures.only_read c.read.ensures.only_read
+returns-clause-only_read g c = read_on _ _ _ c.read_head.ensures.only_read c.read.ensures.only_read

@@ -6,7 +6,7 @@ use Rattle.row_codec.specs.Decoding.{IsRowOf}
 use Rattle.commit_disk.specs.Journal.{JournalState}
 use Rattle.table_write.specs.Cut.{cut}
 use Rattle.table_write.proofs.Cuts.{cut_is}
-use Rattle.table_write.proofs.Adding.{leaves_end, filled_at_end}
+use Rattle.table_write.proofs.Adding.{leaves_end, stops_at_end, filled_at_end}
 use Rattle.table_write.proofs.writer.Writer.append.Goals as goal
 
 pub returns-then-not-fits-clause-full : goal.returns-then-not-fits-clause-full
@@ -17,15 +17,21 @@ returns-then-not-fits-clause-full g c = λ is_full.
       | inl past ↦ past
       | inr le ↦ absurd (iff_false c.fits.ensures c.if-not-fits.true (omega (arith, le, c.gate.ensures.gate)))
     ] in
-    filled_at_end g.K.Disk.len g.K.Disk.honest g.K.Disk.seen g.K.Disk.may_leave g.K.Disk.clock g.K.Disk.left_at c.args.schema.now (cut c.args.batch c.args.rows.now) c.args.journal.now c.args.disk.now
-    c.append_blocks.new.journal c.append_blocks.new.disk blocks.added blocks.each_fits full
+    filled_at_end c.args.schema.now (cut c.args.batch c.args.rows.now) c.args.journal.now (g.K.Disk.state c.args.disk.now)
+    c.append_blocks.new.journal (g.K.Disk.state c.append_blocks.new.disk) blocks.added blocks.each_fits full
 
 pub returns-in_err-end-clause-any_moment : goal.returns-in_err-end-clause-any_moment
 returns-in_err-end-clause-any_moment g c =
     let blocks = c.in_ok-append_blocks.ensures in
     let end = c.end.ensures in
-    leaves_end g.K.Disk.len g.K.Disk.honest g.K.Disk.seen g.K.Disk.may_leave g.K.Disk.clock g.K.Disk.left_at c.args.schema.now (cut c.args.batch c.args.rows.now) c.args.journal.now c.args.disk.now
-    c.append_blocks.new.journal c.append_blocks.new.disk blocks.added c.end.new.disk blocks.honest blocks.any_moment end.any_moment end.grows end.time
+    leaves_end c.args.schema.now (cut c.args.batch c.args.rows.now) c.args.journal.now (g.K.Disk.state c.args.disk.now)
+    c.append_blocks.new.journal (g.K.Disk.state c.append_blocks.new.disk) blocks.added (g.K.Disk.state c.end.new.disk) blocks.elapses blocks.any_moment end.any_moment end.grows end.elapses
+
+pub returns-in_err-end-clause-stops : goal.returns-in_err-end-clause-stops
+returns-in_err-end-clause-stops g c = λ failed.
+    let blocks = c.in_ok-append_blocks.ensures in
+    stops_at_end c.args.schema.now (cut c.args.batch c.args.rows.now) c.args.journal.now (g.K.Disk.state c.args.disk.now)
+    c.append_blocks.new.journal (g.K.Disk.state c.append_blocks.new.disk) blocks.added (g.K.Disk.state c.end.new.disk) blocks.elapses c.end.ensures.any_moment c.end.ensures.elapses
 
 pub returns-clause-of_columns : goal.returns-clause-of_columns
 returns-clause-of_columns g c =
@@ -36,8 +42,8 @@ pub returns-clause-any_moment : goal.returns-clause-any_moment
 returns-clause-any_moment g c =
     let blocks = c.in_ok-append_blocks.ensures in
     let end = c.end.ensures in
-    leaves_end g.K.Disk.len g.K.Disk.honest g.K.Disk.seen g.K.Disk.may_leave g.K.Disk.clock g.K.Disk.left_at c.args.schema.now (cut c.args.batch c.args.rows.now) c.args.journal.now c.args.disk.now
-    c.append_blocks.new.journal c.append_blocks.new.disk blocks.added c.end.new.disk blocks.honest blocks.any_moment end.any_moment end.grows end.time
+    leaves_end c.args.schema.now (cut c.args.batch c.args.rows.now) c.args.journal.now (g.K.Disk.state c.args.disk.now)
+    c.append_blocks.new.journal (g.K.Disk.state c.append_blocks.new.disk) blocks.added (g.K.Disk.state c.end.new.disk) blocks.elapses blocks.any_moment end.any_moment end.grows end.elapses
 
 pub returns-clause-count : goal.returns-clause-count
 returns-clause-count g c =

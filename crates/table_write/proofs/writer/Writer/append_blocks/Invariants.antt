@@ -8,8 +8,7 @@ use Rattle.table_write.proofs.writer.Writer.append_blocks.Given as goal
 abbrev pub invariant-loop-rest : goal.invariant-loop-rest
 invariant-loop-rest g l = record {
   fit : All (λ row. Fits l.schema row) l.rest;
-  so_far : SoFar g.K.Disk.len g.K.Disk.honest g.K.Disk.seen g.K.Disk.may_leave g.K.Disk.clock g.K.Disk.left_at l.schema (cut l.batch l.rows) l.fn.journal l.fn.disk (cut l.batch l.rest) l.journal l.disk;
-  later : g.K.Disk.faults l.fn.disk ≤ g.K.Disk.faults l.disk;
+  so_far : SoFar l.schema (cut l.batch l.rows) l.fn.journal (g.K.Disk.state l.fn.disk) (cut l.batch l.rest) l.journal (g.K.Disk.state l.disk);
   room : l.fn.self ≤ vec_capacity l.self-inside.row;
 }
 
