@@ -3,7 +3,7 @@ use Rattle.std.specs.Prelude.{◌≡◌, ◌≤◌, ℕ, List, IsTrue}
 use Rattle.std.proofs.Common.{◌∙◌, subst, arith, inl, inr}
 use Rattle.std.proofs.lemmas.Bool.{cases_lt}
 use Rattle.outside.specs.Disk.{DiskState, Elapses, LeavesNothingNew}
-use Rattle.commit_disk.specs.Crashes.{HasStill, Grows}
+use Rattle.commit_disk.specs.Crashes.{HasStill, Grows, LosesNothing}
 
 -- an image has still what it has
 pub still_itself : (text image : List ℕ) → HasStill text image image
@@ -51,3 +51,10 @@ grows_on text one two three is earlier later first second =
             ]
           ];
     }
+
+-- where nothing new is left, no table is lost
+pub nothing_lost : (old new : DiskState) → LeavesNothingNew old new → LosesNothing old new
+nothing_lost old new nothing = record {
+  blocks = λ text blocks each is image left. each image (nothing.each is image left);
+  ended = λ text blocks each is image left. each image (nothing.each is image left);
+}

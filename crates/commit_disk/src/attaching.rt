@@ -1,7 +1,7 @@
 // Attaching a table: its head and its gates are read, and none of its rows.
 ghost use Rattle.std.specs.Prelude.{◌≡◌, ◌≢◌, ◌≤◌, ◌<◌, ◌+◌, ◌^◌, ◌↔◌, ◌⊎◌, [], ℕ, List, length, take, drop, min, slice_index, IsTrue, IsErrOf, IfOk, IfSome, OnOk, OnErr, true, false};
 ghost use Rattle.std.specs.Int.{w32, to_be_bytes, from_be_bytes};
-ghost use Rattle.outside.specs.Words.{HasCause, Rose, TellsSize, Elapses, Keeps, Syncs, LeavesNothingNew, OnlyReads};
+ghost use Rattle.outside.specs.Words.{HasCause, Rose, TellsSize, Elapses, Keeps, Syncs, LeavesNothingNew, Spares, OnlyReads};
 ghost use Rattle.tuple_schema.specs.Stops.{IfFault};
 ghost use Rattle.tuple_schema.specs.declared.memory.Stop.TheVariants as stop;
 ghost use Rattle.commit_disk.specs.declared.attaching.TableFault.TheVariants as fault;
@@ -54,6 +54,7 @@ impl From<TableFault> for Stop<TableFault> {
 /// Attaches the table of this flow text. Where no memory is found, nothing is done.
 ///
 /// Begins with a sync, so that what it reads is safe from a crash. Each gate and each block's head is read once, and no row.
+#[tactic(auto, using(outside::specs::Moments::no_read, outside::specs::Moments::reads_spare))]
 pub fn attach<K: Disk>(
     alloc: Global,
     disk: &mut K,
@@ -62,12 +63,9 @@ pub fn attach<K: Disk>(
     ensures tells { IsTrue (K.state disk.old).honest → AttachTells result (K.state disk.old).file text.now }
     ensures within { IfOk result (λ found. IsWithin found (K.state disk.new).size) }
     ensures sound { IfOk result IsSound }
-    // Where the bytes were judged, nothing is pending; else the images are as they were, or nothing is pending.
+    // Nothing is written; and where the bytes were judged, nothing is pending.
+    ensures spares { Spares (K.state disk.old) (K.state disk.new) }
     ensures settled { IsVerdict result → Syncs (K.state disk.old) (K.state disk.new) }
-    ensures barrier { Keeps (K.state disk.old) (K.state disk.new) ⊎ Syncs (K.state disk.old) (K.state disk.new) }
-
-    // A crash at any moment of the call leaves what one before it might have left.
-    ensures nothing_new { LeavesNothingNew (K.state disk.old) (K.state disk.new) }
     ensures elapses { Elapses (K.state disk.old) (K.state disk.new) }
 
     ensures memory { IsErrOf result stop.Memory → disk.new ≡ disk.old }

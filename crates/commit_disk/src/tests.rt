@@ -1,6 +1,6 @@
 // Worked tables, and the calls that a disk gets.
 ghost use Rattle.commit_disk.specs.Table.{IsNotMade};
-ghost use Rattle.outside.specs.MemoryDisk.{seen_of};
+ghost use Rattle.outside.specs.MemoryDisk.{file_of};
 
 use crate::*;
 use outside::{MemoryDisk, Torn};
@@ -212,7 +212,7 @@ fn the_first_wrong_place_is_told(rt: HostRuntime) -> Result<(), Fail> {
 
 // How many of four steps were acknowledged: the table made, its two blocks, its end.
 fn steps_done(alloc: Global, disk: &mut MemoryDisk) -> Result<u32, Memory>
-    requires { IsNotMade (seen_of disk.old) }
+    requires { IsNotMade (file_of disk.old) }
 {
     let Ok(mut journal) = make(alloc, disk, b"x") else {
         return Ok(0);

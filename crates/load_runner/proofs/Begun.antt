@@ -1,12 +1,14 @@
 -- What a load begins from, and what stands behind it.
-use Rattle.std.proofs.Common.{◌≡◌, ◌⊎◌, inl, inr, ◌∙◌, ℕ, ◌+◌, List, [], ◌++◌, length, take, All, Bool, true, false, IsTrue, Ok, refl, sym, ap, subst, append_assoc, append-nil}
+use Rattle.std.proofs.Common.{◌≡◌, ◌⊎◌, inl, inr, ◌∙◌, ℕ, ◌+◌, List, [], ◌++◌, length, take, All, Bool, true, false, IsTrue, Ok, refl, sym, ap, subst, append_assoc, append-nil, arith}
+use Rattle.std.proofs.lemmas.List.Elements.{All-nil}
 use Rattle.tuple_schema.specs.declared.value.Value.{Value}
 use Rattle.tuple_schema.specs.declared.schema.Column.{Column}
 use Rattle.row_codec.specs.Decoding.{IsRowOf}
 use Rattle.commit_disk.specs.declared.attaching.Attached.{Attached}
 use Rattle.commit_disk.specs.declared.attaching.Attached.TheVariants.{NotMade, Made}
-use Rattle.commit_disk.specs.Table.{Stored, Holds, HoldsUpTo, HoldsOnce}
+use Rattle.commit_disk.specs.Table.{Stored, Holds, HoldsUpTo, HoldsOnce, IsNotMade}
 use Rattle.commit_disk.specs.Attach.{VerdictsAgree}
+use Rattle.commit_disk.specs.Crashes.{IsEmptyOrNotMade}
 use Rattle.table_read.specs.Rows.{table_rows}
 use Rattle.table_write.specs.Cut.{together}
 use Rattle.table_write.specs.Rows.{HoldsRows, HoldsFirst}
@@ -36,7 +38,7 @@ begun NotMade image text columns not_made = record {
   holds = inr (not_made, refl, refl);
   count = refl;
   at = λ unended. (not_made, refl);
-  next = λ unended. inr (not_made, refl);
+  next = λ unended. inr (not_made, refl, refl);
 }
 begun (Made journal) image text columns (told, (rows, decodes)) = record {
   olds = told.blocks;
@@ -65,18 +67,18 @@ none_decoded : (columns : List Column) (place : ℕ) (olds : List Stored) (commi
 unfolding table_rows
 none_decoded columns place olds committed decodes none = sym (same_rows _ _ (ap (table_rows columns place) (sym none) ∙ decodes))
 
-pub grown_rows : BlocksHold → (image text : List ℕ) (columns : List Column) (olds : List Stored) (committed : List (List Value)) (blocks : List (List (List Value)))
-    → table_rows columns (16 + length text) olds ≡ Ok committed → IsGrown text columns olds blocks image → HasCommitted image text columns committed blocks
-grown_rows law image text columns olds committed blocks decodes (inl front) = record {
+pub grown_rows : BlocksHold → (file image text : List ℕ) (columns : List Column) (olds : List Stored) (committed : List (List Value)) (blocks : List (List (List Value)))
+    → table_rows columns (16 + length text) olds ≡ Ok committed → IsGrown file text columns olds blocks image → HasCommitted image text columns committed blocks
+grown_rows law file image text columns olds committed blocks decodes (inl front) = record {
   count = front.count;
   ended = front.ended;
   holds = law image text columns olds (take front.count blocks) committed front.ended decodes front.holds front.of_columns;
   all = front.whole;
 }
-grown_rows law image text columns olds committed blocks decodes (inr (not_made, none)) = record {
+grown_rows law file image text columns olds committed blocks decodes (inr not_yet) = record {
   count = 0;
   ended = false;
-  holds = inr (not_made, append-nil committed ∙ none_decoded columns _ olds committed decodes none, refl);
+  holds = inr (not_yet.is, append-nil committed ∙ none_decoded columns _ olds committed decodes not_yet.none, refl);
   all = λ ended. cc;
 }
 
@@ -98,3 +100,15 @@ held_first image text columns committed more acknowledged ended holds begins =
 -- the rows that an image holds are held first
 pub itself_first : (image text : List ℕ) (columns : List Column) (rows : List (List Value)) (ended : Bool) → HoldsRows image text columns rows ended → HoldsFirst text columns rows image
 itself_first image text columns rows ended holds = ([], ended, subst (λ (rs : List (List Value)). HoldsRows image text columns rs ended) (sym (append-nil rows)) holds)
+
+-- a table that is being made is one to which nothing is added yet
+pub made_grows : (file text : List ℕ) (columns : List Column) (blocks : List (List (List Value))) (image : List ℕ) → IsNotMade file → IsEmptyOrNotMade text image → IsGrown file text columns [] blocks image
+made_grows file text columns blocks image was (inl not_made) = inr (record { was = was; none = refl; is = not_made })
+made_grows file text columns blocks image was (inr empty) = inl (record {
+  count = 0;
+  ended = false;
+  holds = empty;
+  within = omega arith;
+  whole = λ ended. cc;
+  of_columns = All-nil (IsRowOf columns);
+})

@@ -1,9 +1,7 @@
 pub mod Readings
 pub mod Standings
-pub mod Moments
 pub mod Chains
 pub mod Tables
 pub mod Begun
 pub mod Ran
-pub mod Answers
-pub mod Completed
+pub mod Loaded

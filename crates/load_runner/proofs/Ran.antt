@@ -1,28 +1,29 @@
--- A load that went on: what a crash leaves at each moment of it.
-use Rattle.std.proofs.Common.{◌≡◌, ◌≤◌, ◌⊎◌, inl, inr, ◌∙◌, ℕ, ◌+◌, List, [], ◌++◌, length, take, drop, All, Bool, true, false, IsTrue, Option, Some, Ok, refl, sym, ap, subst, arith}
-use Rattle.outside.specs.Depot.{Files}
-use Rattle.outside.specs.Images.{SameImages, IsOnly}
+-- A load that went on: what a crash leaves at each moment of it, and what stands behind it.
+use Rattle.std.proofs.Common.{◌≡◌, ◌≤◌, ◌⊎◌, inl, inr, ⊎_elim, ◌∙◌, ℕ, ◌+◌, List, [], ◌++◌, length, take, drop, All, Bool, true, false, IsTrue, Option, Some, Ok, map, refl, sym, ap, subst, append_assoc, append-nil, arith}
+use Rattle.outside.specs.Words.{Each, DiskState, Elapses, IsSettled, Syncs, Spares, OnlyReads, LeftBetween, AtEachMoment, LeavesNothingNew, Files}
+use Rattle.outside.specs.Moments.{time_on, each_on, each_settled, nothing_new_on}
 use Rattle.tuple_schema.specs.declared.value.Value.{Value}
 use Rattle.tuple_schema.specs.declared.schema.Column.{Column}
 use Rattle.commit_disk.specs.declared.attaching.Attached.{Attached}
+use Rattle.commit_disk.specs.declared.attaching.Attached.TheVariants.{NotMade, Made}
 use Rattle.row_codec.specs.Decoding.{IsRowOf}
 use Rattle.commit_disk.specs.Table.{Stored, Holds, HoldsOnce}
 use Rattle.commit_disk.specs.Attach.{VerdictsAgree}
-use Rattle.commit_disk.specs.Crashes.{LeftBetween, Each, GoesOn, Grows, HasStill, NothingNew}
-use Rattle.flow_types.specs.declared.node.Node.{Node}
+use Rattle.commit_disk.specs.Crashes.{Grows, HasStill, HasTable}
+use Rattle.commit_disk.specs.Growth.{grows_on, grows_still}
 use Rattle.table_write.specs.Cut.{IsCut, cut, together}
 use Rattle.table_read.specs.Rows.{table_rows}
 use Rattle.table_write.specs.Adds.{with_blocks, AllHaveRoom, IsFullBehind}
-use Rattle.table_write.specs.Rows.{HoldsRows, HoldsFirst, HoldsEnded}
+use Rattle.table_write.specs.Rows.{HoldsRows, HoldsFirst, HoldsEnded, stored_of}
 use Rattle.load_runner.specs.Standing.{Begins, Stands}
-use Rattle.load_runner.specs.Safe.{IsSafe, TableGrows, IsGrown}
+use Rattle.load_runner.specs.Safe.{IsSafe, TableGrows, IsGrown, IsStopped}
 use Rattle.load_runner.specs.Sources.{whole_in}
 use Rattle.load_runner.specs.Starts.{Starts, IsAt, count_of, is_ended, gate_of}
-use Rattle.load_runner.specs.Loads.{IsMeaning, missing_blocks, HasGrown, IsNextGate}
+use Rattle.load_runner.specs.Jobs.{Job, columns_of, IsMeaning, missing_blocks}
+use Rattle.load_runner.specs.Loads.{IsNextGate, AddsMissing}
 use Rattle.load_runner.proofs.Standings.{begins_both, begins_longer, front_stands}
-use Rattle.load_runner.proofs.Moments.{over_both, grows_both, grows_still}
-use Rattle.load_runner.proofs.Tables.{rows_once}
-use Rattle.load_runner.proofs.Begun.{Begun, begun, BlocksHold, grown_rows, begins_first, held_first, itself_first}
+use Rattle.load_runner.proofs.Tables.{rows_once, not_both}
+use Rattle.load_runner.proofs.Begun.{Begun, begun, BlocksHold, grown_rows, begins_first, held_first}
 
 -- there is a cut of any rows
 abbrev pub CutIs : Type 0
@@ -38,213 +39,203 @@ StillEnded = (text : List ℕ) (old : List ℕ) (image : List ℕ) (columns : Li
     HasStill text old image → HoldsEnded text columns old → HoldsEnded text columns image
 
 -- growth of blocks is growth of rows
-pub in_rows : StillFirst → StillEnded → (text : List ℕ) (columns : List Column) (first last : ℕ) (left : ℕ → List ℕ → Type 0) → Grows text first last left
-    → Each (LeftBetween first last left) (HoldsFirst text columns []) → TableGrows text columns first last left
-in_rows still ended text columns first last left grows held = record {
+pub in_rows : StillFirst → StillEnded → (text : List ℕ) (columns : List Column) (old new : DiskState) → Grows text old new
+    → Each (LeftBetween old new) (HoldsFirst text columns []) → TableGrows text columns old new
+in_rows still ended text columns old new grows held = record {
   keeps_rows = λ u v from le to acknowledged each image it.
-      let old = grows.keeps u v from le to image it in
-      still text old.0 image columns acknowledged old.2 (each old.0 old.1) (held image (v, omega arith, to, it));
+      let was = grows.keeps u v from le to image it in
+      still text was.0 image columns acknowledged was.2 (each was.0 was.1) (held image (v, omega arith, to, it));
   keeps_end = λ u v from le to each image it.
-      let old = grows.keeps u v from le to image it in
-      ended text old.0 image columns old.2 (each old.0 old.1);
+      let was = grows.keeps u v from le to image it in
+      ended text was.0 image columns was.2 (each was.0 was.1);
 }
 
-module _ {D : Type 0} (seen : D → List ℕ) (may_leave : D → List ℕ → Type 0) (clock : D → ℕ) (left_at : D → ℕ → List ℕ → Type 0) where
-  -- a disk that wasn't touched leaves what it left
-  pub still_left : (was is : D) (Fact : List ℕ → Type 0) → is ≡ was → Each (left_at was (clock was)) Fact → Each (LeftBetween (clock was) (clock is) (left_at is)) Fact
-  still_left was is Fact same each =
-      let Claim : D → Type 0 = λ d. Each (LeftBetween (clock was) (clock d) (left_at d)) Fact in
-      let here : Claim was = λ image it.
-      let at_now : it.0 ≡ clock was = omega (arith, it.1, it.2) in
-      each image (subst (λ (moment : ℕ). left_at was moment image) at_now it.3) in
-      subst Claim (sym same) here
+-- the table was read on an honest disk, and then the load went on from what was found
+pub record Ran (job : Job) (told : Option Files) (found : Attached) (old mid new : DiskState) : Type 0 where
+  pub honest : IsTrue old.honest
+  pub began : Elapses old mid
+  pub spares : Spares old mid
+  pub syncs : Syncs old mid
+  pub time : Elapses mid new
+  pub starts : Starts found mid.file job.text (columns_of job)
+  pub unended : is_ended found ≡ false
+  pub moments : (olds : List Stored) → IsAt found mid.file job.text olds
+      → OnlyReads mid new ⊎ ((whole : List (List Value)) × IsMeaning job.nodes told whole
+      × Each (LeftBetween mid new) (IsGrown mid.file job.text (columns_of job) olds (missing_blocks job.batch (count_of found) whole)))
+  pub grows : (olds : List Stored) → IsAt found mid.file job.text olds → OnlyReads mid new ⊎ Grows job.text mid new
 
-  pub still_grows : (text : List ℕ) (was is : D) → is ≡ was → Grows text (clock was) (clock was) (left_at was) → Grows text (clock was) (clock is) (left_at is)
-  still_grows text was is same grows = subst (λ (d : D). Grows text (clock was) (clock d) (left_at d)) (sym same) grows
+module _ (agree : VerdictsAgree) (once : HoldsOnce) (law : BlocksHold) (job : Job) (told : Option Files) (found : Attached) (old mid new : DiskState) (ran : Ran job told found old mid new) where
+  abbrev columns : List Column
+  columns = columns_of job
 
-  -- the table was read, and then the load went on from what was found
-  pub record Ran (text : List ℕ) (columns : List Column) (nodes : List Node) (told : Option Files) (batch : ℕ) (found : Attached) (old mid new : D) : Type 0 where
-    pub nothing : NothingNew (clock old) (clock mid) (left_at mid) (may_leave old)
-    pub began : GoesOn (clock old) (clock mid) (left_at old) (left_at mid)
-    pub same : seen mid ≡ seen old
-    pub only : IsOnly (seen mid) (may_leave mid)
-    pub now : SameImages (left_at mid (clock mid)) (may_leave mid)
-    pub time : GoesOn (clock mid) (clock new) (left_at mid) (left_at new)
-    pub starts : Starts found (seen mid) text columns
-    pub unended : is_ended found ≡ false
-    pub moments : (olds : List Stored) → IsAt found (seen mid) text olds
-        → (new ≡ mid) ⊎ ((whole : List (List Value)) × IsMeaning nodes told whole
-        × Each (LeftBetween (clock mid) (clock new) (left_at new)) (IsGrown text columns olds (missing_blocks batch (count_of found) whole)))
-    pub grows : (olds : List Stored) → IsAt found (seen mid) text olds → (new ≡ mid) ⊎ Grows text (clock mid) (clock new) (left_at new)
+  abbrev blocks_of : List (List Value) → List (List (List Value))
+  blocks_of whole = missing_blocks job.batch (count_of found) whole
 
-  module _ (agree : VerdictsAgree) (once : HoldsOnce) (law : BlocksHold) (text : List ℕ) (columns : List Column) (nodes : List Node) (told : Option Files) (batch : ℕ) (found : Attached) (old mid new : D)
-      (ran : Ran text columns nodes told batch found old mid new) where
-    start : Begun found (seen mid) text columns
-    start = begun found (seen mid) text columns ran.starts
+  start : Begun found mid.file job.text columns
+  start = begun found mid.file job.text columns ran.starts
 
-    -- at the moment between, what a read gives is all that is left
-    between : (Fact : List ℕ → Type 0) → Fact (seen mid) → Each (left_at mid (clock mid)) Fact
-    between Fact it image left_it = subst Fact (sym (ran.only image ((ran.now image).0 left_it))) it
+  still : IsTrue mid.honest
+  still = ran.began.honest ∙ ran.honest
 
-    pub kept_after : (acknowledged : List (List Value)) → HoldsFirst text columns acknowledged (seen mid)
-        → Each (LeftBetween (clock mid) (clock new) (left_at new)) (HoldsFirst text columns acknowledged)
-    unfolding start
-    kept_after acknowledged first =
-        let begins = begins_first agree once (seen mid) text columns start.committed acknowledged (is_ended found) start.holds first in
-        elim (ran.moments start.olds (start.at ran.unended)) [
-          | inl same ↦ still_left mid new (HoldsFirst text columns acknowledged) same (between (HoldsFirst text columns acknowledged) first)
-          | inr (whole, meaning, each) ↦ λ image it.
-              let has = grown_rows law image text columns start.olds start.committed (missing_blocks batch (count_of found) whole) start.decodes (each image it) in
-              held_first image text columns start.committed (together (take has.count (missing_blocks batch (count_of found) whole))) acknowledged has.ended has.holds begins
-        ]
+  same : mid.file ≡ old.file
+  same = ran.syncs.file ran.honest
 
-    pub kept_all : may_leave old (seen old) → (acknowledged : List (List Value)) → Each (may_leave old) (HoldsFirst text columns acknowledged)
-        → Each (LeftBetween (clock old) (clock new) (left_at new)) (HoldsFirst text columns acknowledged)
-    kept_all reads acknowledged each =
-        over_both (HoldsFirst text columns acknowledged) (clock old) (clock mid) (clock new) (left_at mid) (left_at new) ran.time
-        (λ image it. each image (ran.nothing.each image it))
-        (kept_after acknowledged (subst (HoldsFirst text columns acknowledged) (sym ran.same) (each (seen old) reads)))
+  settled : IsSettled mid
+  settled = ran.syncs.settled ran.honest
 
-    pub safe_all : CutIs → 1 ≤ batch → may_leave old (seen old) → (files : Files) → told ≡ Some files → (whole acknowledged : List (List Value)) → whole_in nodes files ≡ Some whole
-        → Each (may_leave old) (IsSafe text columns whole acknowledged)
-        → Each (LeftBetween (clock old) (clock new) (left_at new)) (IsSafe text columns whole acknowledged)
-    unfolding start
-    safe_all cuts some reads files are whole acknowledged means each =
-        let safe : IsSafe text columns whole acknowledged (seen mid) = subst (IsSafe text columns whole acknowledged) (sym ran.same) (each (seen old) reads) in
-        let found_rows = rows_once agree once (seen mid) text columns start.committed safe.rows (is_ended found) safe.ended start.holds safe.holds in
-        let begins : Begins acknowledged start.committed = subst (λ (rows : List (List Value)). Begins acknowledged rows) (sym found_rows.0) safe.begins in
-        let stands : Begins start.committed whole = subst (λ (rows : List (List Value)). Begins rows whole) (sym found_rows.0) safe.stands.begins in
-        over_both (IsSafe text columns whole acknowledged) (clock old) (clock mid) (clock new) (left_at mid) (left_at new) ran.time
-        (λ image it. each image (ran.nothing.each image it))
-        (elim (ran.moments start.olds (start.at ran.unended)) [
-          | inl same ↦ still_left mid new (IsSafe text columns whole acknowledged) same (between (IsSafe text columns whole acknowledged) safe)
-          | inr (other, meaning, grown) ↦ λ image it.
-              let same_whole : other ≡ whole = let e : Some other ≡ Some whole = sym (meaning files are) ∙ means in cc in
-              let blocks = missing_blocks batch (count_of found) other in
-              let has = grown_rows law image text columns start.olds start.committed blocks start.decodes (grown image it) in
-              let missing : drop (length start.committed) whole ≡ together blocks =
-              ap (λ n. drop n whole) (sym start.count) ∙ ap (drop (count_of found)) (sym same_whole) ∙ (cuts batch (drop (count_of found) other) some).whole in
-              record {
-                rows = start.committed ++ together (take has.count blocks);
-                ended = has.ended;
-                holds = has.holds;
-                begins = begins_both acknowledged start.committed _ begins (begins_longer start.committed (together (take has.count blocks)));
-                stands = front_stands whole start.committed blocks has.count has.ended stands missing has.all;
-              }
-        ])
+  -- where the disk was only read from then on, each image is what a read gave
+  read_on_each : (Fact : List ℕ → Type 0) → Fact mid.file → OnlyReads mid new → Each (LeftBetween mid new) Fact
+  read_on_each Fact fact reads image left = each_settled Fact mid settled fact image (reads.nothing_new.each still image left)
 
-    pub grows_all : StillFirst → StillEnded → may_leave old (seen old) → Each (may_leave old) (HoldsFirst text columns [])
-        → TableGrows text columns (clock old) (clock new) (left_at new)
-    unfolding start
-    grows_all still ended reads each =
-        let one = grows_still text (clock old) (clock mid) (left_at mid) (may_leave old) ran.nothing in
-        let here : Grows text (clock mid) (clock mid) (left_at mid) = record { keeps = λ u v from le to image it. one.keeps u v (omega (arith, ran.began.later, from)) le to image it } in
-        let two : Grows text (clock mid) (clock new) (left_at new) = elim (ran.grows start.olds (start.at ran.unended)) [
-          | inl same ↦ still_grows text mid new same here
-          | inr grows ↦ grows
-        ] in
-        let both = grows_both text (clock old) (clock mid) (clock new) (left_at mid) (left_at new) ran.began.later ran.time one two in
-        in_rows still ended text columns (clock old) (clock new) (left_at new) both (kept_all reads [] each)
+  kept_after : (acknowledged : List (List Value)) → HoldsFirst job.text columns acknowledged mid.file → Each (LeftBetween mid new) (HoldsFirst job.text columns acknowledged)
+  unfolding start
+  kept_after acknowledged first =
+      let begins = begins_first agree once mid.file job.text columns start.committed acknowledged (is_ended found) start.holds first in
+      ⊎_elim
+      (read_on_each (HoldsFirst job.text columns acknowledged) first)
+      (λ some image it.
+      let has = grown_rows law mid.file image job.text columns start.olds start.committed (blocks_of some.0) start.decodes (some.2 image it) in
+      held_first image job.text columns start.committed (together (take has.count (blocks_of some.0))) acknowledged has.ended has.holds begins)
+      (ran.moments start.olds (start.at ran.unended))
 
-    -- each image is one from before, or has grown
-    pub adds_all : (committed : List (List Value)) (was_ended : Bool) → HoldsRows (seen old) text columns committed was_ended
-        → Each (LeftBetween (clock old) (clock new) (left_at new)) (may_leave old)
-        ⊎ ((was_ended ≡ false) × ((whole : List (List Value)) × IsMeaning nodes told whole
-        × Each (LeftBetween (clock old) (clock new) (left_at new)) (λ image. may_leave old image ⊎ HasGrown text columns committed (missing_blocks batch (length committed) whole) image)))
-    unfolding start
-    adds_all committed was_ended holds =
-        let holds_mid = subst (λ (image : List ℕ). HoldsRows image text columns committed was_ended) (sym ran.same) holds in
-        let same_rows = rows_once agree once (seen mid) text columns start.committed committed (is_ended found) was_ended start.holds holds_mid in
-        elim (ran.moments start.olds (start.at ran.unended)) [
-          | inl same ↦ inl (over_both (may_leave old) (clock old) (clock mid) (clock new) (left_at mid) (left_at new) ran.time ran.nothing.each
-              (still_left mid new (may_leave old) same (λ image it. ran.nothing.each image (clock mid, ran.began.later, omega arith, it))))
-          | inr (whole, meaning, grown) ↦ inr (
-            sym same_rows.1 ∙ ran.unended,
-            (
-              whole,
-              meaning,
-              over_both (λ image. may_leave old image ⊎ HasGrown text columns committed (missing_blocks batch (length committed) whole) image) (clock old) (clock mid) (clock new) (left_at mid) (left_at new) ran.time
-                  (λ image it. inl (ran.nothing.each image it))
-                  (λ image it. inr (record {
-                    olds = start.olds;
-                    decodes = start.decodes ∙ ap Ok same_rows.0;
-                    grown = subst (λ (n : ℕ). IsGrown text columns start.olds (missing_blocks batch n whole) image) (start.count ∙ ap length same_rows.0) (grown image it);
-                  })),
-            ),
-          )
-        ]
+  pub kept_all : (acknowledged : List (List Value)) → Each old.may_leave (HoldsFirst job.text columns acknowledged)
+      → AtEachMoment old new (HoldsFirst job.text columns acknowledged)
+  kept_all acknowledged each =
+      each_on (HoldsFirst job.text columns acknowledged) old mid new ran.began ran.time
+      (λ is image it. each image (ran.spares.nothing_new.each is image it))
+      (λ _. kept_after acknowledged (subst (HoldsFirst job.text columns acknowledged) (sym same) (each old.file (old.reads_image ran.honest))))
 
-    -- the rows that were found are those that stood
-    were : (committed : List (List Value)) (was_ended : Bool) → HoldsRows (seen old) text columns committed was_ended → (start.committed ≡ committed) × (is_ended found ≡ was_ended)
-    unfolding start
-    were committed was_ended holds =
-        rows_once agree once (seen mid) text columns start.committed committed (is_ended found) was_ended start.holds
-        (subst (λ (image : List ℕ). HoldsRows image text columns committed was_ended) (sym ran.same) holds)
+  pub safe_all : CutIs → 1 ≤ job.batch → (files : Files) → told ≡ Some files → (whole acknowledged : List (List Value)) → whole_in job.nodes files ≡ Some whole
+      → Each old.may_leave (IsSafe job.text columns whole acknowledged) → AtEachMoment old new (IsSafe job.text columns whole acknowledged)
+  unfolding start
+  safe_all cuts some files are whole acknowledged means each =
+      let safe : IsSafe job.text columns whole acknowledged mid.file = subst (IsSafe job.text columns whole acknowledged) (sym same) (each old.file (old.reads_image ran.honest)) in
+      let found_rows = rows_once agree once mid.file job.text columns start.committed safe.rows (is_ended found) safe.ended start.holds safe.holds in
+      let begins : Begins acknowledged start.committed = subst (λ (rows : List (List Value)). Begins acknowledged rows) (sym found_rows.0) safe.begins in
+      let stands : Begins start.committed whole = subst (λ (rows : List (List Value)). Begins rows whole) (sym found_rows.0) safe.stands.begins in
+      each_on (IsSafe job.text columns whole acknowledged) old mid new ran.began ran.time
+      (λ is image it. each image (ran.spares.nothing_new.each is image it))
+      (λ _. ⊎_elim
+      (read_on_each (IsSafe job.text columns whole acknowledged) safe)
+      (λ grown image it.
+      let same_whole : grown.0 ≡ whole = let e : Some grown.0 ≡ Some whole = sym (grown.1 files are) ∙ means in cc in
+      let blocks = blocks_of grown.0 in
+      let has = grown_rows law mid.file image job.text columns start.olds start.committed blocks start.decodes (grown.2 image it) in
+      let missing : drop (length start.committed) whole ≡ together blocks =
+      ap (λ n. drop n whole) (sym start.count) ∙ ap (drop (count_of found)) (sym same_whole) ∙ (cuts job.batch (drop (count_of found) grown.0) some).whole in
+      record {
+        rows = start.committed ++ together (take has.count blocks);
+        ended = has.ended;
+        holds = has.holds;
+        begins = begins_both acknowledged start.committed _ begins (begins_longer start.committed (together (take has.count blocks)));
+        stands = front_stands whole start.committed blocks has.count has.ended stands missing has.all;
+      })
+      (ran.moments start.olds (start.at ran.unended)))
 
-    pub not_ended : (committed : List (List Value)) → HoldsRows (seen old) text columns committed true → ⊥
-    not_ended committed holds = let e : false ≡ true = sym ran.unended ∙ (were committed true holds).1 in cc
+  -- nothing is lost of the blocks
+  pub grows_blocks : Grows job.text old new
+  unfolding start
+  grows_blocks =
+      let later : Grows job.text mid new = ⊎_elim
+      (λ reads. grows_still job.text mid new still reads.nothing_new)
+      (λ grows. grows)
+      (ran.grows start.olds (start.at ran.unended)) in
+      grows_on job.text old mid new ran.honest ran.began ran.time (grows_still job.text old mid ran.honest ran.spares.nothing_new) later
 
-    -- what stands once all that is missing is added
-    pub all_added : CutIs → 1 ≤ batch → (committed : List (List Value)) (was_ended : Bool) → HoldsRows (seen old) text columns committed was_ended
-        → (whole : List (List Value)) → All (IsRowOf columns) (drop (count_of found) whole)
-        → ((olds : List Stored) → IsAt found (seen mid) text olds → Holds (seen new) text (with_blocks olds (missing_blocks batch (count_of found) whole)) true)
-        → (was_ended ≡ false) × (count_of found ≡ length committed) × HoldsRows (seen new) text columns (committed ++ drop (length committed) whole) true
-    unfolding start
-    all_added cuts some committed was_ended holds whole of_columns added =
-        let same = were committed was_ended holds in
-        let count : count_of found ≡ length committed = start.count ∙ ap length same.0 in
-        let blocks = missing_blocks batch (count_of found) whole in
-        let rows : drop (count_of found) whole ≡ together blocks = (cuts batch (drop (count_of found) whole) some).whole in
-        let own : All (IsRowOf columns) (together blocks) = subst (λ (rs : List (List Value)). All (IsRowOf columns) rs) rows of_columns in
-        let held = law (seen new) text columns start.olds blocks start.committed true start.decodes (added start.olds (start.at ran.unended)) own in
-        let are : start.committed ++ together blocks ≡ committed ++ drop (length committed) whole =
-        ap (λ rs. rs ++ together blocks) same.0 ∙ ap (λ rs. committed ++ rs) (sym rows ∙ ap (λ n. drop n whole) count) in
-        (sym same.1 ∙ ran.unended, count, subst (λ (rs : List (List Value)). HoldsRows (seen new) text columns rs true) are held)
+  pub grows_all : StillFirst → StillEnded → Each old.may_leave (HoldsFirst job.text columns []) → TableGrows job.text columns old new
+  grows_all first ended each = in_rows first ended job.text columns old new grows_blocks (kept_all [] each ran.honest)
 
-    -- what stands where the table is full
-    pub filled : (committed : List (List Value)) (was_ended : Bool) → HoldsRows (seen old) text columns committed was_ended
-        → (whole : List (List Value)) (count : ℕ) → IsFullBehind (gate_of found text) (missing_blocks batch (count_of found) whole) count
-        → All (IsRowOf columns) (together (take count (missing_blocks batch (count_of found) whole)))
-        → ((olds : List Stored) → IsAt found (seen mid) text olds → Holds (seen new) text (with_blocks olds (take count (missing_blocks batch (count_of found) whole))) false)
-        → (olds : List Stored) × (gate : ℕ) × (table_rows columns (16 + length text) olds ≡ Ok committed) × IsNextGate (seen old) text olds gate
-        × IsFullBehind gate (missing_blocks batch (length committed) whole) count
-        × HoldsRows (seen new) text columns (committed ++ together (take count (missing_blocks batch (length committed) whole))) false
-    unfolding start
-    filled committed was_ended holds whole count full of_columns added =
-        let same = were committed was_ended holds in
-        let number : count_of found ≡ length committed = start.count ∙ ap length same.0 in
-        let held = law (seen new) text columns start.olds (take count (missing_blocks batch (count_of found) whole)) start.committed false start.decodes (added start.olds (start.at ran.unended)) of_columns in
-        let gate = subst (λ (image : List ℕ). IsNextGate image text start.olds (gate_of found text)) ran.same (start.next ran.unended) in
-        let are : start.committed ++ together (take count (missing_blocks batch (count_of found) whole)) ≡ committed ++ together (take count (missing_blocks batch (length committed) whole)) =
-        ap (λ rs. rs ++ together (take count (missing_blocks batch (count_of found) whole))) same.0 ∙ ap (λ n. committed ++ together (take count (missing_blocks batch n whole))) number in (
-          start.olds,
-          gate_of found text,
-          start.decodes ∙ ap Ok same.0,
-          gate,
-          subst (λ (n : ℕ). IsFullBehind (gate_of found text) (missing_blocks batch n whole) count) number full,
-          subst (λ (rs : List (List Value)). HoldsRows (seen new) text columns rs false) are held,
-        )
+  -- The table that was found.
 
-    -- where all blocks have room
-    pub has_room : (committed : List (List Value)) → HoldsRows (seen old) text columns committed false
-        → (whole : List (List Value)) → AllHaveRoom (gate_of found text) (missing_blocks batch (count_of found) whole)
-        → (olds : List Stored) × (gate : ℕ) × (table_rows columns (16 + length text) olds ≡ Ok committed) × IsNextGate (seen old) text olds gate
-        × AllHaveRoom gate (missing_blocks batch (length committed) whole)
-    unfolding start
-    has_room committed holds whole room =
-        let same = were committed false holds in
-        let number : count_of found ≡ length committed = start.count ∙ ap length same.0 in
-        let gate = subst (λ (image : List ℕ). IsNextGate image text start.olds (gate_of found text)) ran.same (start.next ran.unended) in
-        (start.olds, gate_of found text, start.decodes ∙ ap Ok same.0, gate, subst (λ (n : ℕ). AllHaveRoom (gate_of found text) (missing_blocks batch n whole)) number room)
+  pub committed : List (List Value)
+  committed = start.committed
 
-    -- the rows that stood stand first in what a read gives now
-    pub still_first : may_leave new (seen new) → SameImages (left_at new (clock new)) (may_leave new) → (committed : List (List Value)) (was_ended : Bool)
-        → HoldsRows (seen old) text columns committed was_ended → HoldsFirst text columns committed (seen new)
-    still_first reads now_left committed was_ended holds =
-        let there = subst (λ (image : List ℕ). HoldsRows image text columns committed was_ended) (sym ran.same) holds in
-        kept_after committed (itself_first (seen mid) text columns committed was_ended there) (seen new) (clock new, ran.time.later, omega arith, (now_left (seen new)).1 reads)
+  pub olds : List Stored
+  olds = start.olds
 
-    -- rows were found
-    pub found_rows : (committed : List (List Value)) × HoldsRows (seen old) text columns committed (is_ended found)
-    unfolding start
-    found_rows = (start.committed, subst (λ (image : List ℕ). HoldsRows image text columns start.committed (is_ended found)) ran.same start.holds)
+  pub held : HoldsRows old.file job.text columns committed false
+  unfolding start committed
+  held =
+      subst (λ (b : Bool). HoldsRows old.file job.text columns start.committed b) ran.unended
+      (subst (λ (file : List ℕ). HoldsRows file job.text columns start.committed (is_ended found)) same start.holds)
+
+  pub decodes : table_rows columns (16 + length job.text) olds ≡ Ok committed
+  unfolding start committed olds
+  decodes = start.decodes
+
+  pub at : IsNextGate old.file job.text olds (gate_of found job.text)
+  unfolding start olds
+  at = subst (λ (file : List ℕ). IsNextGate file job.text start.olds (gate_of found job.text)) same (start.next ran.unended)
+
+  pub is_at : IsAt found mid.file job.text olds
+  unfolding start olds
+  is_at = start.at ran.unended
+
+  pub counted : count_of found ≡ length committed
+  unfolding start committed
+  counted = start.count
+
+  -- in words of the committed rows
+  pub in_count : (P : List (List (List Value)) → Type 0) (whole : List (List Value)) → P (blocks_of whole) → P (missing_blocks job.batch (length committed) whole)
+  in_count P whole = subst (λ (n : ℕ). P (missing_blocks job.batch n whole)) counted
+
+  -- each image is one from before, or has grown
+  pub adds : LeavesNothingNew old new ⊎ AddsMissing job told committed olds old new
+  adds = ⊎_elim
+      (λ reads. inl (nothing_new_on old mid new ran.began ran.time ran.spares.nothing_new reads.nothing_new))
+      (λ some. inr (record {
+        whole = some.0;
+        meaning = some.1;
+        each = each_on (λ image. old.may_leave image ⊎ IsGrown old.file job.text columns olds (missing_blocks job.batch (length committed) some.0) image) old mid new ran.began ran.time
+            (λ is image it. inl (ran.spares.nothing_new.each is image it))
+            (λ _ image it. inr (subst (λ (file : List ℕ). IsGrown file job.text columns olds (missing_blocks job.batch (length committed) some.0) image) same (in_count (λ blocks. IsGrown mid.file job.text columns olds blocks image) some.0 (some.2 image it))));
+      }))
+      (ran.moments olds is_at)
+
+  -- rows behind the committed ones
+  pub added_rows : (image : List ℕ) (taken : List (List (List Value))) (ended : Bool) → Holds image job.text (with_blocks olds taken) ended → All (IsRowOf columns) (together taken)
+      → HoldsRows image job.text columns (committed ++ together taken) ended
+  added_rows image taken ended holds own = law image job.text columns olds taken committed ended decodes holds own
+
+  -- No table is lost.
+
+  -- a table that an image has begins with those of the file
+  has_on : (text : List ℕ) (blocks : List Stored) → HasTable text blocks mid.file → Holds mid.file job.text olds false → (taken : List (List (List Value))) (ended : Bool) (image : List ℕ)
+      → Holds image job.text (with_blocks olds taken) ended → HasTable text blocks image
+  has_on text blocks has holds taken ended image grown =
+      let one = once mid.file text job.text (blocks ++ has.0) olds has.1 false has.2 holds in
+      let are : with_blocks olds taken ≡ blocks ++ with_blocks has.0 taken = ap (λ (bs : List Stored). with_blocks bs taken) (sym one.1) ∙ append_assoc blocks has.0 (map stored_of taken) in
+      (
+        with_blocks has.0 taken,
+        ended,
+        subst (λ (t : List ℕ). Holds image t (blocks ++ with_blocks has.0 taken) ended) (sym one.0) (subst (λ (bs : List Stored). Holds image job.text bs ended) are grown),
+      )
+
+  made_holds : (text : List ℕ) (blocks : List Stored) → HasTable text blocks mid.file → Holds mid.file job.text olds false
+  made_holds text blocks has = made_at found (is_at) has
+    where
+      made_at : (f : Attached) → IsAt f mid.file job.text olds → HasTable text blocks mid.file → Holds mid.file job.text olds false
+      made_at NotMade at has = absurd (not_both agree once mid.file text (blocks ++ has.0) has.1 has.2 at.0)
+      made_at (Made journal) at has = at.holds
+
+  pub tables_kept : (text : List ℕ) (blocks : List Stored) → Each old.may_leave (HasTable text blocks) → AtEachMoment old new (HasTable text blocks)
+  tables_kept text blocks each =
+      let has : HasTable text blocks mid.file = subst (HasTable text blocks) (sym same) (each old.file (old.reads_image ran.honest)) in
+      let holds = made_holds text blocks has in
+      each_on (HasTable text blocks) old mid new ran.began ran.time
+      (λ is image it. each image (ran.spares.nothing_new.each is image it))
+      (λ _. ⊎_elim
+      (read_on_each (HasTable text blocks) has)
+      (λ some image it. ⊎_elim
+      (λ front. has_on text blocks has holds (take front.count (blocks_of some.0)) front.ended image front.holds)
+      (λ not_yet. absurd (not_both agree once mid.file text (blocks ++ has.0) has.1 has.2 not_yet.was))
+      (some.2 image it))
+      (ran.moments olds is_at))
+
+  -- and none was ended
+  pub none_ended : (text : List ℕ) (blocks : List Stored) → Each old.may_leave (λ image. Holds image text blocks true) → ⊥
+  none_ended text blocks each =
+      let holds : Holds mid.file text blocks true = subst (λ (file : List ℕ). Holds file text blocks true) (sym same) (each old.file (old.reads_image ran.honest)) in
+      let unended = made_holds text blocks ([], true, subst (λ (bs : List Stored). Holds mid.file text bs true) (sym (append-nil blocks)) holds) in
+      let one = once mid.file text job.text blocks olds true false holds unended in
+      let e : true ≡ false = one.2 in cc

@@ -4,7 +4,8 @@ pub mod Found
 pub mod Safe
 pub mod Starts
 pub mod Faults
-pub mod Answers
 pub mod Reports
+pub mod Jobs
+pub mod Resuming
 pub mod Loads
 pub mod Histories

@@ -1,112 +1,144 @@
--- What a load does, and what it answers.
-use Rattle.std.specs.Prelude.{◌≡◌, ◌≢◌, ◌⊎◌, ◌≤◌, ◌+◌, ℕ, List, [], ◌++◌, length, drop, take, All, IfSome, Bool, true, false, Option, Some, None, Result, Ok, Err, ⊤}
-use Rattle.outside.specs.Depot.{Files}
+-- What a load promises: what stays true, what is never lost, and what it does by what the table's file is found to be.
+use Rattle.std.specs.Prelude.{◌≡◌, ◌⊎◌, ◌≤◌, ◌+◌, ℕ, List, [], ◌++◌, length, drop, take, Bool, true, false, IsTrue, Option, Some, None, Result, Ok, Err, ⊤}
+use Rattle.outside.specs.Words.{Rose, Each, DiskState, Elapses, AtEachMoment, IsSettled, LeavesNothingNew, Spares, Files, DepotState, Consults}
 use Rattle.tuple_schema.specs.declared.value.Value.{Value}
-use Rattle.tuple_schema.specs.declared.schema.Column.{Column}
 use Rattle.tuple_schema.specs.declared.memory.Stop.{Stop}
 use Rattle.tuple_schema.specs.declared.memory.Stop.TheVariants.{Memory, Fault}
 use Rattle.commit_disk.specs.Table.{Stored, Holds, HoldsUpTo, IsNotMade}
+use Rattle.commit_disk.specs.Crashes.{LosesNothing}
 use Rattle.table_read.specs.Rows.{table_rows}
-use Rattle.table_write.specs.Cut.{cut, together}
+use Rattle.table_write.specs.Cut.{together}
 use Rattle.table_write.specs.Adds.{with_blocks, AllHaveRoom, IsFullBehind}
-use Rattle.table_write.specs.Rows.{HoldsRows}
-use Rattle.flow_types.specs.declared.fault.NodeId.{NodeId}
+use Rattle.table_write.specs.Rows.{HoldsRows, HoldsFirst}
 use Rattle.flow_types.specs.declared.node.Node.{Node}
+use Rattle.flow_types.specs.Typed.{last_of}
 use Rattle.load_runner.specs.declared.fault.LoadFault.{LoadFault}
 use Rattle.load_runner.specs.declared.fault.LoadFault.TheVariants as fault
 use Rattle.load_runner.specs.declared.report.Report.{Report}
-use Rattle.row_codec.specs.Decoding.{IsRowOf}
-use Rattle.commit_disk.specs.declared.attaching.Attached.{Attached}
-use Rattle.flow_types.specs.Typed.{last_of}
-use Rattle.load_runner.specs.Starts.{IsAt, count_of}
-use Rattle.load_runner.specs.Sources.{whole_in, root_columns}
-use Rattle.load_runner.specs.Safe.{IsGrown}
+use Rattle.load_runner.specs.Sources.{whole_in}
+use Rattle.load_runner.specs.Jobs.{Job, Answer, columns_of, IsMeaning, missing_blocks}
+use Rattle.load_runner.specs.Found.{State, rows, wrong, other, IsFound}
+use Rattle.load_runner.specs.Safe.{IsSafe, TableGrows, IsGrown, IsStopped}
 use Rattle.load_runner.specs.Reports.{report_of, ended_report}
 
--- where the files are told, these rows are the meaning of the flow over them
-abbrev pub IsMeaning : List Node → Option Files → List (List Value) → Type 0
-IsMeaning nodes told whole = (files : Files) → told ≡ Some files → whole_in nodes files ≡ Some whole
-
--- the blocks that are missing: those of the rows behind as many as are committed
-abbrev pub missing_blocks : ℕ → ℕ → List (List Value) → List (List (List Value))
-missing_blocks batch committed whole = cut batch (drop committed whole)
-
--- the image holds the committed rows, and behind their blocks the first of these
-pub record HasGrown (text : List ℕ) (columns : List Column) (committed : List (List Value)) (blocks : List (List (List Value))) (image : List ℕ) : Type 0 where
-  pub olds : List Stored
-  pub decodes : table_rows columns (16 + length text) olds ≡ Ok committed
-  pub grown : IsGrown text columns olds blocks image
+-- The table that isn't ended.
 
 -- where the next block's gate is, behind these blocks: or where it will be, once the table is made
 abbrev pub IsNextGate : List ℕ → List ℕ → List Stored → ℕ → Type 0
-IsNextGate image text olds gate = HoldsUpTo gate image text olds false ⊎ (IsNotMade image × (gate ≡ 16 + length text))
+IsNextGate file text olds gate = HoldsUpTo gate file text olds false ⊎ (IsNotMade file × (olds ≡ []) × (gate ≡ 16 + length text))
 
--- the table that held the committed rows, ended or not, is complete: ended it is as it was, and else all rows that were missing
--- stand behind them, and it is ended
-abbrev pub IsComplete : List Node → Option Files → List ℕ → NodeId → List (List Value) → Bool → Report → List ℕ → Type 0
-IsComplete nodes told text root committed true report image =
-    HoldsRows image text (root_columns nodes) committed true × (report ≡ ended_report (length committed))
-IsComplete nodes told text root committed false report image =
-    (whole : List (List Value)) × IsMeaning nodes told whole
-    × HoldsRows image text (root_columns nodes) (committed ++ drop (length committed) whole) true × (report ≡ report_of root (length committed) (length whole))
-
--- the answer leaves the table as it was
-abbrev pub LeavesTable : {X : Type 0} → Result X (Stop LoadFault) → Type 0
-LeavesTable (Ok x) = ⊥
-LeavesTable (Err Memory) = ⊤
-LeavesTable (Err (Fault fault.Depot)) = ⊤
-LeavesTable (Err (Fault fault.Disk)) = ⊥
-LeavesTable (Err (Fault (fault.NotATable place))) = ⊤
-LeavesTable (Err (Fault fault.WorkflowDiffers)) = ⊤
-LeavesTable (Err (Fault fault.NotBuilt)) = ⊤
-LeavesTable (Err (Fault fault.Full)) = ⊥
-
--- the answer comes from a disk on which nothing is pending
-abbrev pub Settles : {X : Type 0} → Result X (Stop LoadFault) → Type 0
-Settles (Ok x) = ⊤
-Settles (Err Memory) = ⊥
-Settles (Err (Fault fault.Depot)) = ⊤
-Settles (Err (Fault fault.Disk)) = ⊥
-Settles (Err (Fault (fault.NotATable place))) = ⊥
-Settles (Err (Fault fault.WorkflowDiffers)) = ⊥
-Settles (Err (Fault fault.NotBuilt)) = ⊤
-Settles (Err (Fault fault.Full)) = ⊤
-
--- a device failed in this call, or there is a cause in the table or the source
-abbrev pub RestsOn : Type 0 → Type 0 → LoadFault → Type 0
-RestsOn depot disk fault.Depot = depot
-RestsOn depot disk fault.Disk = disk
-RestsOn depot disk (fault.NotATable place) = ⊤
-RestsOn depot disk fault.WorkflowDiffers = ⊤
-RestsOn depot disk fault.NotBuilt = ⊤
-RestsOn depot disk fault.Full = ⊤
-
--- the table is full: of the blocks that are missing so many have room, and stand behind the committed rows, and the next one has none
-pub record IsFullWith (nodes : List Node) (told : Option Files) (text : List ℕ) (batch : ℕ) (committed : List (List Value)) (before now : List ℕ) : Type 0 where
+-- the load is complete: behind the old blocks stand all that were missing and the end, nothing is pending, and the report says how many
+pub record IsComplete (job : Job) (told : Option Files) (committed : List (List Value)) (olds : List Stored) (gate : ℕ) (now : DiskState) (report : Report) : Type 0 where
   pub whole : List (List Value)
-  pub meaning : IsMeaning nodes told whole
-  pub olds : List Stored
-  pub decodes : table_rows (root_columns nodes) (16 + length text) olds ≡ Ok committed
-  pub gate : ℕ
-  pub at : IsNextGate before text olds gate
+  pub meaning : IsMeaning job.nodes told whole
+  pub blocks : Holds now.file job.text (with_blocks olds (missing_blocks job.batch (length committed) whole)) true
+  pub rows : HoldsRows now.file job.text (columns_of job) (committed ++ drop (length committed) whole) true
+  pub settled : IsSettled now
+  pub room : AllHaveRoom gate (missing_blocks job.batch (length committed) whole)
+  pub root : Node
+  pub is_root : last_of job.nodes ≡ Some root
+  pub reported : report ≡ report_of root.id (length committed) (length whole)
+
+-- the table is full: so many of the missing blocks have room, and stand behind the old ones, nothing is pending, and the next one has none
+pub record IsFull (job : Job) (told : Option Files) (committed : List (List Value)) (olds : List Stored) (gate : ℕ) (now : DiskState) : Type 0 where
+  pub whole : List (List Value)
+  pub meaning : IsMeaning job.nodes told whole
   pub count : ℕ
-  pub full : IsFullBehind gate (missing_blocks batch (length committed) whole) count
-  pub holds : HoldsRows now text (root_columns nodes) (committed ++ together (take count (missing_blocks batch (length committed) whole))) false
+  pub full : IsFullBehind gate (missing_blocks job.batch (length committed) whole) count
+  pub blocks : Holds now.file job.text (with_blocks olds (take count (missing_blocks job.batch (length committed) whole))) false
+  pub rows : HoldsRows now.file job.text (columns_of job) (committed ++ together (take count (missing_blocks job.batch (length committed) whole))) false
+  pub settled : IsSettled now
 
--- all blocks that are missing have room behind the committed ones, and the end block has
-pub record HasRoomFor (nodes : List Node) (told : Option Files) (text : List ℕ) (batch : ℕ) (committed : List (List Value)) (before : List ℕ) : Type 0 where
+-- the disk failed while the table was made, or while the missing blocks were added behind the old ones
+pub record StoppedAdding (job : Job) (told : Option Files) (committed : List (List Value)) (olds : List Stored) (disk now : DiskState) : Type 0 where
   pub whole : List (List Value)
-  pub meaning : IsMeaning nodes told whole
+  pub meaning : IsMeaning job.nodes told whole
+  pub stopped : IsStopped disk.file job.text olds (missing_blocks job.batch (length committed) whole) now.may_leave
+
+-- what each answer leaves, behind these old blocks and this gate; the table is refused by none
+abbrev pub Leaves : Job → Option Files → List (List Value) → List Stored → ℕ → DiskState → DiskState → Answer → Type 0
+Leaves job told committed olds gate disk now (Ok report) = IsComplete job told committed olds gate now report
+Leaves job told committed olds gate disk now (Err Memory) = Spares disk now
+Leaves job told committed olds gate disk now (Err (Fault fault.Depot)) = Spares disk now
+Leaves job told committed olds gate disk now (Err (Fault fault.NotBuilt)) = Spares disk now
+Leaves job told committed olds gate disk now (Err (Fault fault.Full)) = IsFull job told committed olds gate now
+Leaves job told committed olds gate disk now (Err (Fault fault.Disk)) = Spares disk now ⊎ StoppedAdding job told committed olds disk now
+Leaves job told committed olds gate disk now (Err (Fault (fault.NotATable place))) = ⊥
+Leaves job told committed olds gate disk now (Err (Fault fault.WorkflowDiffers)) = ⊥
+
+-- each image of each moment is one from before, or holds the old blocks and behind them the first of those that are missing
+pub record AddsMissing (job : Job) (told : Option Files) (committed : List (List Value)) (olds : List Stored) (disk now : DiskState) : Type 0 where
+  pub whole : List (List Value)
+  pub meaning : IsMeaning job.nodes told whole
+  pub each : AtEachMoment disk now (λ image. disk.may_leave image ⊎ IsGrown disk.file job.text (columns_of job) olds (missing_blocks job.batch (length committed) whole) image)
+
+-- a load to a table that isn't ended, whose blocks decode to the committed rows: only blocks that are missing are added, in their order
+pub record AddsTo (job : Job) (told : Option Files) (committed : List (List Value)) (disk now : DiskState) (answer : Answer) : Type 0 where
   pub olds : List Stored
-  pub decodes : table_rows (root_columns nodes) (16 + length text) olds ≡ Ok committed
+  pub decodes : table_rows (columns_of job) (16 + length job.text) olds ≡ Ok committed
   pub gate : ℕ
-  pub at : IsNextGate before text olds gate
-  pub room : AllHaveRoom gate (missing_blocks batch (length committed) whole)
+  pub at : IsNextGate disk.file job.text olds gate
+  pub moments : LeavesNothingNew disk now ⊎ AddsMissing job told committed olds disk now
+  pub leaves : Leaves job told committed olds gate disk now answer
 
--- the table is ended, and all that was missing behind the rows that were found stands in it, as the report says
-pub record AllAdded (nodes : List Node) (told : Option Files) (text : List ℕ) (batch : ℕ) (found : Attached) (before now : List ℕ) (report : Report) : Type 0 where
-  pub whole : List (List Value)
-  pub meaning : IsMeaning nodes told whole
-  pub of_columns : All (IsRowOf (root_columns nodes)) (drop (count_of found) whole)
-  pub holds : (olds : List Stored) → IsAt found before text olds → Holds now text (with_blocks olds (missing_blocks batch (count_of found) whole)) true
-  pub reported : IfSome (last_of nodes) (λ root. report ≡ report_of root.id (count_of found) (length whole))
+-- Any other file.
+
+-- no memory was found, or the disk failed
+abbrev pub FailsOutside : Answer → Type 0
+FailsOutside answer = (answer ≡ Err Memory) ⊎ (answer ≡ Err (Fault fault.Disk))
+
+-- no source is read and nothing is written, and this is the answer, unless no memory was found or the disk failed
+pub record Stays (wanted : Answer) (depot still : DepotState) (disk now : DiskState) (answer : Answer) : Type 0 where
+  pub unread : still ≡ depot
+  pub spares : Spares disk now
+  pub answers : (answer ≡ wanted) ⊎ FailsOutside answer
+
+-- the answer that a table is refused with, or that an ended one is complete
+abbrev pub refused_at : ℕ → Answer
+refused_at place = Err (Fault (fault.NotATable place))
+
+abbrev pub refused_other : Answer
+refused_other = Err (Fault fault.WorkflowDiffers)
+
+abbrev pub complete_before : List (List Value) → Answer
+complete_before committed = Ok (ended_report (length committed))
+
+-- what a load does, by what the file is found to be
+abbrev pub Does : Job → DepotState → DepotState → DiskState → DiskState → Answer → State → Type 0
+Does job depot still disk now answer (rows committed true) = Stays (complete_before committed) depot still disk now answer
+Does job depot still disk now answer (rows committed false) = AddsTo job depot.files committed disk now answer
+Does job depot still disk now answer (wrong place) = Stays (refused_at place) depot still disk now answer
+Does job depot still disk now answer other = Stays refused_other depot still disk now answer
+
+-- The promise.
+
+-- what each answer rests on, be the disk honest or not: a device is blamed only where it failed in this call, and a source only where the
+-- flow has no meaning over the files
+abbrev pub RestsOn : Job → DepotState → DepotState → DiskState → DiskState → Answer → Type 0
+RestsOn job depot still disk now (Ok report) = ⊤
+RestsOn job depot still disk now (Err Memory) = ⊤
+RestsOn job depot still disk now (Err (Fault fault.Depot)) = Rose depot.faults still.faults
+RestsOn job depot still disk now (Err (Fault fault.NotBuilt)) = (files : Files) → depot.files ≡ Some files → whole_in job.nodes files ≡ None
+RestsOn job depot still disk now (Err (Fault fault.Full)) = ⊤
+RestsOn job depot still disk now (Err (Fault fault.Disk)) = Rose disk.faults now.faults
+RestsOn job depot still disk now (Err (Fault (fault.NotATable place))) = ⊤
+RestsOn job depot still disk now (Err (Fault fault.WorkflowDiffers)) = ⊤
+
+-- a load, over the depot and the disk before and after it, and what it answers
+pub record Loads (job : Job) (depot still : DepotState) (disk now : DiskState) (answer : Answer) : Type 0 where
+  -- what stays true for the next call
+  pub consults : Consults depot still
+  pub elapses : Elapses disk now
+  -- no table is lost, whose ever it is
+  pub loses_nothing : LosesNothing disk now
+  -- rows of this flow's table that every image holds first before the load, every image of every moment holds first
+  pub kept : (acknowledged : List (List Value)) → Each disk.may_leave (HoldsFirst job.text (columns_of job) acknowledged)
+      → AtEachMoment disk now (HoldsFirst job.text (columns_of job) acknowledged)
+  -- and where they stood for the meaning of the flow, those that a crash leaves stand for it
+  pub safe : (files : Files) → depot.files ≡ Some files → (whole acknowledged : List (List Value)) → whole_in job.nodes files ≡ Some whole
+      → Each disk.may_leave (IsSafe job.text (columns_of job) whole acknowledged) → AtEachMoment disk now (IsSafe job.text (columns_of job) whole acknowledged)
+  -- what is committed in the load is not taken back
+  pub grows : IsTrue disk.honest → Each disk.may_leave (HoldsFirst job.text (columns_of job) []) → TableGrows job.text (columns_of job) disk now
+  -- what it does
+  pub does : IsTrue disk.honest → (state : State) → IsFound disk.file job.text (columns_of job) state → Does job depot still disk now answer state
+  pub rests : RestsOn job depot still disk now answer

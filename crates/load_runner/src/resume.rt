@@ -1,21 +1,21 @@
 // Going on with a load, once the table was read.
 ghost use Rattle.std.specs.Prelude.{◌≡◌, ◌≢◌, ◌≤◌, ◌⊎◌, ℕ, List, IsTrue, Err, None, Some, All, IfOk, OnOk, length, take, drop, true, false};
-ghost use Rattle.outside.specs.Counts.{Rose};
-ghost use Rattle.outside.specs.Depot.{Files};
+ghost use Rattle.outside.specs.Words.{Rose, Each, Files, Consults, Elapses, IsSettled, LeftBetween, OnlyReads};
 ghost use Rattle.tuple_schema.specs.Stops.{IfFault};
 ghost use Rattle.tuple_schema.specs.declared.value.Value.{Value};
 ghost use Rattle.tuple_schema.specs.declared.memory.Stop.TheVariants as stop;
 ghost use Rattle.commit_disk.specs.Table.{Stored, Holds};
 ghost use Rattle.commit_disk.specs.Attach.{IsWithin, IsSound};
-ghost use Rattle.commit_disk.specs.Crashes.{IsSettled, GoesOn, LeftBetween, Each, Grows};
+ghost use Rattle.commit_disk.specs.Crashes.{Grows};
 ghost use Rattle.row_codec.specs.Decoding.{IsRowOf};
 ghost use Rattle.table_write.specs.Cut.{together};
 ghost use Rattle.table_write.specs.Adds.{with_blocks, AllHaveRoom, IsFullBehind};
 ghost use Rattle.load_runner.specs.declared.fault.LoadFault.TheVariants as fault;
 ghost use Rattle.load_runner.specs.Sources.{whole_in, root_columns};
-ghost use Rattle.load_runner.specs.Safe.{IsGrown};
+ghost use Rattle.load_runner.specs.Safe.{IsGrown, IsStopped};
 ghost use Rattle.load_runner.specs.Starts.{IsAt, is_ended, count_of, gate_of};
-ghost use Rattle.load_runner.specs.Loads.{IsMeaning, AllAdded, missing_blocks, LeavesTable, Settles, RestsOn};
+ghost use Rattle.load_runner.specs.Jobs.{IsMeaning, missing_blocks};
+ghost use Rattle.load_runner.specs.Resuming.{AllAdded, IsUnwritten, IsCaused};
 
 use crate::fault::LoadFault;
 use crate::finish::finish;
@@ -29,6 +29,7 @@ use table_write::Writer;
 use tuple_schema::{Stop, Tuple};
 
 /// Reads what the flow means, and adds what is missing behind the rows that were found.
+#[tactic(auto, using(outside::specs::Moments::no_read))]
 pub fn resume<D: Depot, K: Disk>(
     alloc: Global,
     flow: &Flow,
@@ -43,38 +44,42 @@ pub fn resume<D: Depot, K: Disk>(
     requires few { batch ≤ MAX_ROWS }
     requires sound { IsSound found }
     requires unended { is_ended found ≡ false }
-    requires within { IsWithin found (K.len disk.old) }
-    requires start { IsTrue (K.honest disk.old) → (olds : List Stored) × IsAt found (K.seen disk.old) text.now olds }
+    requires within { IsWithin found (K.state disk.old).size }
+    requires start { IsTrue (K.state disk.old).honest → (olds : List Stored) × IsAt found (K.state disk.old).file text.now olds }
 
-    ensures done { IfOk result (λ report. IsTrue (K.honest disk.old)
-        → AllAdded flow.now (D.files depot.old) text.now batch found (K.seen disk.old) (K.seen disk.new) report) }
-    ensures none { result ≡ Err (stop.Fault fault.NotBuilt) → (files : Files) → D.files depot.old ≡ Some files → whole_in flow.now files ≡ None }
-    ensures all_fit { OnOk result ((whole : List (List Value)) × IsMeaning flow.now (D.files depot.old) whole
-        × AllHaveRoom (gate_of found text.now) (missing_blocks batch (count_of found) whole)) }
-    ensures full { result ≡ Err (stop.Fault fault.Full) → (whole : List (List Value)) × IsMeaning flow.now (D.files depot.old) whole
+    ensures done { IfOk result (λ report. IsTrue (K.state disk.old).honest
+        → AllAdded flow.now (D.state depot.old).files text.now batch found (K.state disk.old).file (K.state disk.new).file report) }
+    ensures none { result ≡ Err (stop.Fault fault.NotBuilt) → (files : Files) → (D.state depot.old).files ≡ Some files
+        → whole_in flow.now files ≡ None }
+    ensures full { result ≡ Err (stop.Fault fault.Full) → (whole : List (List Value)) × IsMeaning flow.now (D.state depot.old).files whole
         × ((count : ℕ) × IsFullBehind (gate_of found text.now) (missing_blocks batch (count_of found) whole) count
         × All (IsRowOf (root_columns flow.now)) (together (take count (missing_blocks batch (count_of found) whole)))
-        × (IsTrue (K.honest disk.old) → (olds : List Stored) → IsAt found (K.seen disk.old) text.now olds
-        → Holds (K.seen disk.new) text.now (with_blocks olds (take count (missing_blocks batch (count_of found) whole))) false)) }
-    ensures causes { IfFault result (RestsOn (Rose (D.faults depot.old) (D.faults depot.new)) (Rose (K.faults disk.old) (K.faults disk.new))) }
+        × (IsTrue (K.state disk.old).honest → (olds : List Stored) → IsAt found (K.state disk.old).file text.now olds
+        → Holds (K.state disk.new).file text.now (with_blocks olds (take count (missing_blocks batch (count_of found) whole))) false)) }
+    ensures causes { IfFault result (IsCaused (Rose (D.state depot.old).faults (D.state depot.new).faults)
+        (Rose (K.state disk.old).faults (K.state disk.new).faults)) }
     ensures table { (place : ℕ) → result ≢ Err (stop.Fault (fault.NotATable place)) }
     ensures same_flow { result ≢ Err (stop.Fault fault.WorkflowDiffers) }
 
-    ensures untouched { LeavesTable result → disk.new ≡ disk.old }
-    ensures settled { Settles result → IsTrue (K.honest disk.old) → IsSettled (K.seen disk.old) (K.may_leave disk.old) → IsSettled (K.seen disk.new) (K.may_leave disk.new) }
+    ensures untouched { IsUnwritten result → disk.new ≡ disk.old }
+    ensures settled { OnOk result (IsTrue (K.state disk.old).honest → IsSettled (K.state disk.new)) }
+    ensures full_settled { result ≡ Err (stop.Fault fault.Full) → IsTrue (K.state disk.old).honest → IsSettled (K.state disk.old)
+        → IsSettled (K.state disk.new) }
     // A crash at any moment of the call leaves the blocks from before, and the first of those that are missing.
-    ensures any_moment { IsTrue (K.honest disk.old) → IsSettled (K.seen disk.old) (K.may_leave disk.old)
-        → (olds : List Stored) → IsAt found (K.seen disk.old) text.now olds
-        → (disk.new ≡ disk.old) ⊎ ((whole : List (List Value)) × IsMeaning flow.now (D.files depot.old) whole
-        × Each (LeftBetween (K.clock disk.old) (K.clock disk.new) (K.left_at disk.new))
-        (IsGrown text.now (root_columns flow.now) olds (missing_blocks batch (count_of found) whole))) }
-    ensures grows { IsTrue (K.honest disk.old) → IsSettled (K.seen disk.old) (K.may_leave disk.old)
-        → (olds : List Stored) → IsAt found (K.seen disk.old) text.now olds
-        → (disk.new ≡ disk.old) ⊎ Grows text.now (K.clock disk.old) (K.clock disk.new) (K.left_at disk.new) }
-    ensures time { IsTrue (K.honest disk.old) → GoesOn (K.clock disk.old) (K.clock disk.new) (K.left_at disk.old) (K.left_at disk.new) }
-    ensures depot_later { D.faults depot.old ≤ D.faults depot.new }
-    ensures later { K.faults disk.old ≤ K.faults disk.new }
-    ensures honest { K.honest disk.new ≡ K.honest disk.old }
+    ensures any_moment { IsTrue (K.state disk.old).honest → IsSettled (K.state disk.old)
+        → (olds : List Stored) → IsAt found (K.state disk.old).file text.now olds
+        → OnlyReads (K.state disk.old) (K.state disk.new) ⊎ ((whole : List (List Value)) × IsMeaning flow.now (D.state depot.old).files whole
+        × Each (LeftBetween (K.state disk.old) (K.state disk.new))
+        (IsGrown (K.state disk.old).file text.now (root_columns flow.now) olds (missing_blocks batch (count_of found) whole))) }
+    ensures grows { IsTrue (K.state disk.old).honest → IsSettled (K.state disk.old)
+        → (olds : List Stored) → IsAt found (K.state disk.old).file text.now olds
+        → OnlyReads (K.state disk.old) (K.state disk.new) ⊎ Grows text.now (K.state disk.old) (K.state disk.new) }
+    ensures stops { result ≡ Err (stop.Fault fault.Disk) → IsTrue (K.state disk.old).honest → IsSettled (K.state disk.old)
+        → (olds : List Stored) → IsAt found (K.state disk.old).file text.now olds
+        → (whole : List (List Value)) × IsMeaning flow.now (D.state depot.old).files whole
+        × IsStopped (K.state disk.old).file text.now olds (missing_blocks batch (count_of found) whole) (K.state disk.new).may_leave }
+    ensures consults { Consults (D.state depot.old) (D.state depot.new) }
+    ensures elapses { Elapses (K.state disk.old) (K.state disk.new) }
 {
     let root = flow.root();
     let mut writer = Writer::new(alloc, &root.schema)?;

@@ -1,7 +1,6 @@
 // The rows that a flow means, from the files of its sources.
 ghost use Rattle.std.specs.Prelude.{◌≡◌, ◌≤◌, ◌+◌, Some, None, All, IfOk, IfSome, Err, slice_get};
-ghost use Rattle.outside.specs.Counts.{Rose};
-ghost use Rattle.outside.specs.Depot.{Files, file_at};
+ghost use Rattle.outside.specs.Words.{Rose, Files, file_at, Consults};
 ghost use Rattle.outside.specs.Whole.{found_in};
 ghost use Rattle.tuple_schema.specs.Schemas.{Fits};
 ghost use Rattle.tuple_schema.specs.Stops.{IfFault};
@@ -29,12 +28,11 @@ pub fn whole_rows<D: Depot>(
     flow: &Flow,
     depot: &mut D,
 ) -> Result<Tuples, Stop<LoadFault>>
-    ensures whole { IfOk result (λ rows. (files : Files) → D.files depot.old ≡ Some files → whole_in flow.now files ≡ Some rows) }
-    ensures none { result ≡ Err (stop.Fault fault.NotBuilt) → (files : Files) → D.files depot.old ≡ Some files → whole_in flow.now files ≡ None }
+    ensures whole { IfOk result (λ rows. (files : Files) → (D.state depot.old).files ≡ Some files → whole_in flow.now files ≡ Some rows) }
+    ensures none { result ≡ Err (stop.Fault fault.NotBuilt) → (files : Files) → (D.state depot.old).files ≡ Some files → whole_in flow.now files ≡ None }
     ensures fit { IfOk result (λ rows. IfSome (last_of flow.now) (λ root. All (λ row. Fits root.schema row) rows)) }
-    ensures causes { IfFault result (IsSourceFault (Rose (D.faults depot.old) (D.faults depot.new))) }
-    ensures later { D.faults depot.old ≤ D.faults depot.new }
-    ensures same { D.files depot.new ≡ D.files depot.old }
+    ensures causes { IfFault result (IsSourceFault (Rose (D.state depot.old).faults (D.state depot.new).faults)) }
+    ensures consults { Consults (D.state depot.old) (D.state depot.new) }
 {
     let Some(rows) = source_rows(alloc, flow, depot)? else {
         return Err(Stop::Fault(LoadFault::NotBuilt));
@@ -51,11 +49,10 @@ fn source_rows<D: Depot>(
     flow: &Flow,
     depot: &mut D,
 ) -> Result<Option<Tuples>, Stop<LoadFault>>
-    ensures content { IfOk result (λ rows. (files : Files) → D.files depot.old ≡ Some files → source_in flow.now files ≡ rows) }
+    ensures content { IfOk result (λ rows. (files : Files) → (D.state depot.old).files ≡ Some files → source_in flow.now files ≡ rows) }
     ensures fit { IfOk result (λ o. IfSome o (λ rows. IfSome (slice_get flow.now 0) (λ first. All (λ row. Fits first.schema row) rows))) }
-    ensures causes { IfFault result (λ f. (f ≡ fault.Depot) × Rose (D.faults depot.old) (D.faults depot.new)) }
-    ensures later { D.faults depot.old ≤ D.faults depot.new }
-    ensures same { D.files depot.new ≡ D.files depot.old }
+    ensures causes { IfFault result (λ f. (f ≡ fault.Depot) × Rose (D.state depot.old).faults (D.state depot.new).faults) }
+    ensures consults { Consults (D.state depot.old) (D.state depot.new) }
 {
     let first = &flow.nodes()[0];
     match &first.kind {
@@ -72,12 +69,11 @@ fn read_rows<D: Depot>(
     schema: &Schema,
 ) -> Result<Option<Tuples>, Stop<LoadFault>>
     requires { All (λ c. c.kind ≡ column_kind.Int) schema.now }
-    ensures content { IfOk result (λ rows. (files : Files) → D.files depot.old ≡ Some files
+    ensures content { IfOk result (λ rows. (files : Files) → (D.state depot.old).files ≡ Some files
         → content_in schema.now (found_in MAX_SOURCE (file_at files file.now)) ≡ rows) }
     ensures fit { IfOk result (λ o. IfSome o (λ rows. All (λ row. Fits schema.now row) rows)) }
-    ensures causes { IfFault result (λ f. (f ≡ fault.Depot) × Rose (D.faults depot.old) (D.faults depot.new)) }
-    ensures later { D.faults depot.old ≤ D.faults depot.new }
-    ensures same { D.files depot.new ≡ D.files depot.old }
+    ensures causes { IfFault result (λ f. (f ≡ fault.Depot) × Rose (D.state depot.old).faults (D.state depot.new).faults) }
+    ensures consults { Consults (D.state depot.old) (D.state depot.new) }
 {
     match read_whole(alloc, depot, file, MAX_SOURCE) {
         Ok(WholeFile::Read(bytes)) => Ok(read_content(alloc, &bytes, schema)?),

@@ -4,7 +4,7 @@ use Rattle.std.proofs.Common.{◌∙◌, subst, sym, arith, inl, inr, ⊎_elim}
 use Rattle.std.proofs.lemmas.Bool.{cases_lt}
 use Rattle.outside.specs.Counts.{Rose}
 use Rattle.outside.specs.Images.{Torn, Each, AreTorn, SameImages, IsOnly}
-use Rattle.outside.specs.Disk.{DiskState, Elapses, Ticks, Keeps, Syncs, Tears, IsSettled, LeftBetween, AtEachMoment, LeavesNothingNew, OnlyReads}
+use Rattle.outside.specs.Disk.{DiskState, Elapses, Ticks, Keeps, Syncs, Tears, IsSettled, LeftBetween, AtEachMoment, LeavesNothingNew, Spares, OnlyReads}
 use Rattle.outside.specs.Passing.{PassesOver}
 
 pub same_images : (images : List ℕ → Type 0) → SameImages images images
@@ -226,21 +226,36 @@ one_read old new size keeps ticks = record {
   nothing_new = nothing_new old new ticks (λ is image it. (keeps.images is image).1 it);
 }
 
+-- where nothing was written once and then again, nothing was written
+pub keeps_on : (one two three : DiskState) → Elapses one two → Keeps one two → Keeps two three → Keeps one three
+keeps_on one two three earlier first second = record {
+  file = λ is. second.file (earlier.honest ∙ is) ∙ first.file is;
+  images = λ is image. let still = earlier.honest ∙ is in (
+    (λ was. (second.images still image).0 ((first.images is image).0 was)),
+    (λ now. (first.images is image).1 ((second.images still image).1 now)),
+  );
+}
+
 -- reads and then more reads
 pub read_on : (one two three : DiskState) → OnlyReads one two → OnlyReads two three → OnlyReads one three
 read_on one two three first second = record {
   size = second.size ∙ first.size;
   elapses = time_on one two three first.elapses second.elapses;
-  keeps = record {
-    file = λ is. second.keeps.file (first.elapses.honest ∙ is) ∙ first.keeps.file is;
-    images = λ is image. let still = first.elapses.honest ∙ is in (
-      (λ was. (second.keeps.images still image).0 ((first.keeps.images is image).0 was)),
-      (λ now. (first.keeps.images is image).1 ((second.keeps.images still image).1 now)),
-    );
-  };
+  keeps = keeps_on one two three first.elapses first.keeps second.keeps;
   nothing_new = nothing_new_on one two three first.elapses second.elapses first.nothing_new second.nothing_new;
 }
 
 -- and once more
 pub read_three : (one two three four : DiskState) → OnlyReads one two → OnlyReads two three → OnlyReads three four → OnlyReads one four
 read_three one two three four first second third = read_on one three four (read_on one two three first second) third
+
+-- a disk that is only read is spared
+pub reads_spare : (old new : DiskState) → OnlyReads old new → Spares old new
+reads_spare old new reads = record { barrier = inl reads.keeps; nothing_new = reads.nothing_new }
+
+-- and so is one that was spared before
+pub spares_on : (one two three : DiskState) → Elapses one two → Spares one two → OnlyReads two three → Spares one three
+spares_on one two three earlier spares reads = record {
+  barrier = ⊎_elim (λ keeps. inl (keeps_on one two three earlier keeps reads.keeps)) (λ syncs. inr (synced_still one two three earlier syncs reads.keeps)) spares.barrier;
+  nothing_new = nothing_new_on one two three earlier reads.elapses spares.nothing_new reads.nothing_new;
+}

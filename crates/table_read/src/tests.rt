@@ -1,6 +1,6 @@
 // Worked tables. Each has the flow text `x`, so that its first gate stands at 17.
 ghost use Rattle.std.specs.Prelude.{◌≡◌, ◌<◌, length, IfOk, true, false};
-ghost use Rattle.outside.specs.MemoryDisk.{seen_of};
+ghost use Rattle.outside.specs.MemoryDisk.{file_of};
 
 use crate::verify;
 use commit_disk::{Attached, Block, Journal, TableFault, attach, make};
@@ -21,11 +21,11 @@ fn one_int(alloc: Global) -> Result<Schema, Fail> {
 
 // Two rows from 27 to 45, and one from 55 to 64.
 fn two_blocks(alloc: Global, disk: &mut MemoryDisk) -> Result<Journal, Fail>
-    requires { length (seen_of disk.old) ≡ 0 }
+    requires { length (file_of disk.old) ≡ 0 }
     ensures gate { IfOk result (λ journal. journal.gate ≡ 64) }
     ensures unended { IfOk result (λ journal. journal.ended ≡ false) }
     ensures sound { IfOk result (λ journal. journal.sound ≡ true) }
-    ensures len { IfOk result (λ _. 64 < length (seen_of disk.new)) }
+    ensures len { IfOk result (λ _. 64 < length (file_of disk.new)) }
 {
     let mut journal = make(alloc, disk, b"x")?;
     let mut block = Block::new(alloc)?;

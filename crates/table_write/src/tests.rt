@@ -2,7 +2,7 @@
 ghost use Rattle.std.specs.Prelude.{◌≡◌, ◌≤◌, length, All, IfOk};
 ghost use Rattle.tuple_schema.specs.Schemas.{Fits};
 ghost use Rattle.row_codec.specs.Rows.{AreNumbers};
-ghost use Rattle.outside.specs.MemoryDisk.{seen_of};
+ghost use Rattle.outside.specs.MemoryDisk.{file_of};
 
 use crate::{WriteFault, Writer};
 use commit_disk::{Attached, attach, make};
@@ -46,7 +46,7 @@ fn written(
     stop: u64,
     torn: Torn,
 ) -> Result<Result<(), WriteFault>, Fail>
-    requires { length (seen_of disk.old) ≡ 0 }
+    requires { length (file_of disk.old) ≡ 0 }
 {
     let schema = one_int(alloc)?;
     let rows = rows_of(alloc, &schema, numbers)?;

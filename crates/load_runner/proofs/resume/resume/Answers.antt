@@ -51,5 +51,6 @@ returns-in-Ok-clause-done g c = λ honest.
       meaning = c.in_ok-rows.ensures.whole;
       of_columns = rw (columns, missing) at c.in-Ok.ensures.of_columns;
       holds = λ olds there. rw missing at (c.in-Ok.ensures.done honest olds there);
+      room = rw missing at c.in-Ok.ensures.all_fit;
       reported = rw (← c.root-root.ensures.last) (c.in_ok-report.ensures ∙ ap (λ n. report_of c.root-root.result.now.id n c.len.result) c.count_of-before.ensures ∙ ap (report_of c.root-root.result.now.id (count_of c.args.found)) c.len.ensures);
     }

@@ -1,0 +1,274 @@
+-- The promise of a load, for each way in which it ends.
+use Rattle.std.proofs.Common.{◌≡◌, ◌≢◌, ◌⊎◌, ◌≤◌, inl, inr, ◌∙◌, ℕ, ◌+◌, List, [], ◌++◌, length, take, drop, All, IfOk, IfSome, OnOk, Bool, true, false, IsTrue, Option, Some, None, Result, Ok, Err, refl, sym, ap, subst, arith}
+use Rattle.outside.specs.Moments.{rose_later}
+use Rattle.outside.specs.Words.{Rose, Each, DiskState, Elapses, IsSettled, Spares, AtEachMoment, Files, DepotState, Consults}
+use Rattle.tuple_schema.specs.declared.value.Value.{Value}
+use Rattle.tuple_schema.specs.declared.schema.Column.{Column}
+use Rattle.tuple_schema.specs.declared.memory.Stop.{Stop}
+use Rattle.tuple_schema.specs.declared.memory.Stop.TheVariants.{Memory, Fault}
+use Rattle.tuple_schema.specs.Stops.{IfFault}
+use Rattle.row_codec.specs.Decoding.{IsRowOf}
+use Rattle.commit_disk.specs.declared.attaching.Attached.{Attached}
+use Rattle.commit_disk.specs.declared.attaching.Attached.TheVariants.{NotMade, Made}
+use Rattle.commit_disk.specs.Table.{Stored, Holds, HoldsUpTo, HoldsOnce, front}
+use Rattle.commit_disk.specs.Attach.{VerdictsAgree}
+use Rattle.commit_disk.specs.Crashes.{HasTable, LosesNothing}
+use Rattle.commit_disk.specs.Growth.{grows_still, nothing_lost}
+use Rattle.table_read.specs.Rows.{table_rows}
+use Rattle.table_write.specs.Cut.{together}
+use Rattle.table_write.specs.Adds.{with_blocks, AllHaveRoom, IsFullBehind}
+use Rattle.table_write.specs.Rows.{HoldsRows, HoldsFirst}
+use Rattle.flow_types.specs.declared.node.Node.{Node}
+use Rattle.flow_types.specs.Typed.{last_of}
+use Rattle.load_runner.specs.declared.fault.LoadFault.{LoadFault}
+use Rattle.load_runner.specs.declared.fault.LoadFault.TheVariants as fault
+use Rattle.load_runner.specs.declared.report.Report.{Report}
+use Rattle.load_runner.specs.Faults.{IsTableFault}
+use Rattle.load_runner.specs.Found.{State, rows, wrong, other, IsFound}
+use Rattle.load_runner.specs.Jobs.{Job, Answer, columns_of, IsMeaning, missing_blocks}
+use Rattle.load_runner.specs.Loads.{IsNextGate, IsComplete, IsFull, StoppedAdding, Leaves, AddsTo, FailsOutside, Stays, Does, RestsOn, Loads}
+use Rattle.load_runner.specs.Reports.{report_of, ended_report}
+use Rattle.load_runner.specs.Resuming.{IsUnwritten, IsCaused, AllAdded}
+use Rattle.load_runner.specs.Safe.{IsStopped}
+use Rattle.load_runner.specs.Sources.{whole_in}
+use Rattle.load_runner.specs.Starts.{IsAt, is_ended, count_of, gate_of, Starts}
+use Rattle.load_runner.proofs.Begun.{BlocksHold}
+use Rattle.load_runner.proofs.Ran.{CutIs, StillFirst, StillEnded, Ran, in_rows, kept_all, safe_all, grows_all, grows_blocks, committed, olds, held, decodes, at, is_at, counted, adds, added_rows}
+use Rattle.load_runner.proofs.Tables.{found_once, not_both}
+
+-- the depot was not asked
+pub unasked : (depot : DepotState) → Consults depot depot
+unasked depot = record { files = refl; faults = omega arith; served = omega arith }
+
+-- Nothing was written.
+
+-- what stood, not ended
+record Stood (file text : List ℕ) (columns : List Column) (had : List (List Value)) : Type 0 where
+  olds : List Stored
+  decodes : table_rows columns (16 + length text) olds ≡ Ok had
+  gate : ℕ
+  at : IsNextGate file text olds gate
+
+stood_of : (file text : List ℕ) (columns : List Column) (had : List (List Value)) → HoldsRows file text columns had false → Stood file text columns had
+unfolding table_rows
+stood_of file text columns had (inl has) = record {
+  olds = has.blocks;
+  decodes = has.decodes;
+  gate = length (front text has.blocks false);
+  at = inl (record { holds = has.holds; at = refl });
+}
+stood_of file text columns had (inr none) = record { olds = []; decodes = ap Ok (sym none.1); gate = 16 + length text; at = inr (none.0, refl, refl) }
+
+spared_leaves : (job : Job) (told : Option Files) (had : List (List Value)) (stored : List Stored) (gate : ℕ) (disk now : DiskState) (answer : Answer) → Spares disk now → FailsOutside answer
+    → Leaves job told had stored gate disk now answer
+spared_leaves job told had stored gate disk now answer spares (inl memory) = rw memory spares
+spared_leaves job told had stored gate disk now answer spares (inr failed) = rw failed (inl spares)
+
+-- whatever the file is found to be, want of memory and a failed disk may be answered
+outside_does : (job : Job) (depot : DepotState) (disk now : DiskState) (answer : Answer) → Spares disk now → FailsOutside answer → (state : State) → IsFound disk.file job.text (columns_of job) state
+    → Does job depot depot disk now answer state
+outside_does job depot disk now answer spares out (rows had true) found = record { unread = refl; spares = spares; answers = inr out }
+outside_does job depot disk now answer spares out (rows had false) found =
+    let stood = stood_of disk.file job.text (columns_of job) had found in
+    record {
+      olds = stood.olds;
+      decodes = stood.decodes;
+      gate = stood.gate;
+      at = stood.at;
+      moments = inl spares.nothing_new;
+      leaves = spared_leaves job depot.files had stood.olds stood.gate disk now answer spares out;
+    }
+outside_does job depot disk now answer spares out (wrong place) found = record { unread = refl; spares = spares; answers = inr out }
+outside_does job depot disk now answer spares out other found = record { unread = refl; spares = spares; answers = inr out }
+
+-- reading the table stopped
+abbrev stopped : Stop LoadFault → Result Attached (Stop LoadFault)
+stopped s = Err s
+
+module _ (agree : VerdictsAgree) (once : HoldsOnce) (job : Job) (depot : DepotState) (disk now : DiskState) (spares : Spares disk now) where
+  -- of a table that is refused
+  refused_does : (failed : Type 0) (s : Stop LoadFault)
+      → ((place : ℕ) → s ≡ Fault (fault.NotATable place) → IsFound disk.file job.text (columns_of job) (wrong place))
+      → (s ≡ Fault fault.WorkflowDiffers → IsFound disk.file job.text (columns_of job) other)
+      → IfFault (stopped s) (IsTableFault failed) → (state : State) → IsFound disk.file job.text (columns_of job) state → Does job depot depot disk now (Err s) state
+  refused_does failed Memory no_table differs cause state found = outside_does job depot disk now (Err Memory) spares (inl refl) state found
+  refused_does failed (Fault fault.Disk) no_table differs cause state found = outside_does job depot disk now (Err (Fault fault.Disk)) spares (inr refl) state found
+  refused_does failed (Fault (fault.NotATable place)) no_table differs cause state found =
+      subst (Does job depot depot disk now (Err (Fault (fault.NotATable place)))) (found_once agree once disk.file job.text (columns_of job) (wrong place) state (no_table place refl) found)
+      (record { unread = refl; spares = spares; answers = inl refl })
+  refused_does failed (Fault fault.WorkflowDiffers) no_table differs cause state found =
+      subst (Does job depot depot disk now (Err (Fault fault.WorkflowDiffers))) (found_once agree once disk.file job.text (columns_of job) other state (differs refl) found)
+      (record { unread = refl; spares = spares; answers = inl refl })
+  refused_does failed (Fault fault.Depot) no_table differs cause state found = absurd cause
+  refused_does failed (Fault fault.NotBuilt) no_table differs cause state found = absurd cause
+  refused_does failed (Fault fault.Full) no_table differs cause state found = absurd cause
+
+  -- where nothing was written, all that a load promises of images holds
+  spared : StillFirst → StillEnded → (answer : Answer) → Elapses disk now
+      → (IsTrue disk.honest → (state : State) → IsFound disk.file job.text (columns_of job) state → Does job depot depot disk now answer state)
+      → RestsOn job depot depot disk now answer → Loads job depot depot disk now answer
+  spared first ended answer elapses does rests = record {
+    consults = unasked depot;
+    elapses = elapses;
+    loses_nothing = nothing_lost disk now spares.nothing_new;
+    kept = λ acknowledged each is image left. each image (spares.nothing_new.each is image left);
+    safe = λ files told whole acknowledged means each is image left. each image (spares.nothing_new.each is image left);
+    grows = λ is each. in_rows first ended job.text (columns_of job) disk now (grows_still job.text disk now is spares.nothing_new) (λ image left. each image (spares.nothing_new.each is image left));
+    does = does;
+    rests = rests;
+  }
+
+  refused_rests : (s : Stop LoadFault) → IfFault (stopped s) (IsTableFault (RestsOn job depot depot disk now (Err (Fault fault.Disk)))) → RestsOn job depot depot disk now (Err s)
+  refused_rests Memory cause = tt
+  refused_rests (Fault fault.Disk) cause = cause
+  refused_rests (Fault (fault.NotATable place)) cause = tt
+  refused_rests (Fault fault.WorkflowDiffers) cause = tt
+  refused_rests (Fault fault.Depot) cause = absurd cause
+  refused_rests (Fault fault.NotBuilt) cause = absurd cause
+  refused_rests (Fault fault.Full) cause = absurd cause
+
+  -- a load that stopped while the table was read
+  pub refused : StillFirst → StillEnded → (s : Stop LoadFault) → Elapses disk now
+      → ((place : ℕ) → s ≡ Fault (fault.NotATable place) → IsTrue disk.honest → IsFound disk.file job.text (columns_of job) (wrong place))
+      → (s ≡ Fault fault.WorkflowDiffers → IsTrue disk.honest → IsFound disk.file job.text (columns_of job) other)
+      → IfFault (stopped s) (IsTableFault (RestsOn job depot depot disk now (Err (Fault fault.Disk)))) → Loads job depot depot disk now (Err s)
+  refused first ended s elapses no_table differs cause =
+      spared first ended (Err s) elapses
+      (λ is. refused_does (RestsOn job depot depot disk now (Err (Fault fault.Disk))) s (λ place e. no_table place e is) (λ e. differs e is) cause)
+      (refused_rests s cause)
+
+  -- a load over an ended table
+  pub rested : StillFirst → StillEnded → (report : Report) → Elapses disk now
+      → (IsTrue disk.honest → (committed : List (List Value)) × HoldsRows disk.file job.text (columns_of job) committed true × (report ≡ ended_report (length committed)))
+      → Loads job depot depot disk now (Ok report)
+  rested first ended report elapses holds =
+      spared first ended (Ok report) elapses
+      (λ is state found.
+      let has = holds is in
+      subst (Does job depot depot disk now (Ok report)) (found_once agree once disk.file job.text (columns_of job) (rows has.0 true) state has.1 found)
+      (record { unread = refl; spares = spares; answers = inl (ap Ok has.2) }))
+      tt
+
+-- Blocks were added.
+
+module _ (agree : VerdictsAgree) (once : HoldsOnce) (law : BlocksHold) (cuts : CutIs) (job : Job) (told : Option Files) (found_of : Attached) (old mid new : DiskState) (ran : Ran job told found_of old mid new) where
+  abbrev rows_of : List (List Value)
+  rows_of = committed agree once law job told found_of old mid new ran
+
+  abbrev olds_of : List Stored
+  olds_of = olds agree once law job told found_of old mid new ran
+
+  abbrev at_olds : IsAt found_of mid.file job.text olds_of
+  at_olds = is_at agree once law job told found_of old mid new ran
+
+  -- in words of the committed rows
+  by_count : (P : ℕ → Type 0) → P (count_of found_of) → P (length rows_of)
+  by_count P = subst P (counted agree once law job told found_of old mid new ran)
+
+  complete : 1 ≤ job.batch → (report : Report) (root : Node) → Some root ≡ last_of job.nodes → IsSettled new → AllAdded job.nodes told job.text job.batch found_of mid.file new.file report
+      → IsComplete job told rows_of olds_of (gate_of found_of job.text) new report
+  complete some report root last settled all =
+      let Blocks : ℕ → List (List (List Value)) = λ n. missing_blocks job.batch n all.whole in
+      let holds = by_count (λ n. Holds new.file job.text (with_blocks olds_of (Blocks n)) true) (all.holds olds_of at_olds) in
+      let cut_is : drop (length rows_of) all.whole ≡ together (Blocks (length rows_of)) = (cuts job.batch (drop (length rows_of) all.whole) some).whole in
+      let own : All (IsRowOf (columns_of job)) (drop (length rows_of) all.whole) = by_count (λ n. All (IsRowOf (columns_of job)) (drop n all.whole)) all.of_columns in
+      let reported : report ≡ report_of root.id (count_of found_of) (length all.whole) = rw (← last) at all.reported in
+      record {
+        whole = all.whole;
+        meaning = all.meaning;
+        blocks = holds;
+        rows = subst (λ rs. HoldsRows new.file job.text (columns_of job) (rows_of ++ rs) true) (sym cut_is)
+            (added_rows agree once law job told found_of old mid new ran new.file (Blocks (length rows_of)) true holds (subst (λ rs. All (IsRowOf (columns_of job)) rs) cut_is own));
+        settled = settled;
+        room = by_count (λ n. AllHaveRoom (gate_of found_of job.text) (Blocks n)) all.room;
+        root = root;
+        is_root = sym last;
+        reported = by_count (λ n. report ≡ report_of root.id n (length all.whole)) reported;
+      }
+
+  -- what a load that is full tells
+  abbrev pub Fills : Type 0
+  Fills = (whole : List (List Value)) × IsMeaning job.nodes told whole
+      × ((count : ℕ) × IsFullBehind (gate_of found_of job.text) (missing_blocks job.batch (count_of found_of) whole) count
+      × All (IsRowOf (columns_of job)) (together (take count (missing_blocks job.batch (count_of found_of) whole)))
+      × (IsTrue mid.honest → (olds : List Stored) → IsAt found_of mid.file job.text olds → Holds new.file job.text (with_blocks olds (take count (missing_blocks job.batch (count_of found_of) whole))) false))
+
+  full : IsSettled new → Fills → IsFull job told rows_of olds_of (gate_of found_of job.text) new
+  full settled fills =
+      let whole = fills.0 in
+      let count = fills.2.0 in
+      let Taken : ℕ → List (List (List Value)) = λ n. take count (missing_blocks job.batch n whole) in
+      let holds = by_count (λ n. Holds new.file job.text (with_blocks olds_of (Taken n)) false) (fills.2.3 (ran.began.honest ∙ ran.honest) olds_of at_olds) in
+      record {
+        whole = whole;
+        meaning = fills.1;
+        count = count;
+        full = by_count (λ n. IsFullBehind (gate_of found_of job.text) (missing_blocks job.batch n whole) count) fills.2.1;
+        blocks = holds;
+        rows = added_rows agree once law job told found_of old mid new ran new.file (Taken (length rows_of)) false holds (by_count (λ n. All (IsRowOf (columns_of job)) (together (Taken n))) fills.2.2);
+        settled = settled;
+      }
+
+  -- what a load that stopped tells
+  abbrev pub StopsAt : Type 0
+  StopsAt = (whole : List (List Value)) × IsMeaning job.nodes told whole × IsStopped mid.file job.text olds_of (missing_blocks job.batch (count_of found_of) whole) new.may_leave
+
+  stopped_adding : StopsAt → StoppedAdding job told rows_of olds_of old new
+  stopped_adding stops = record {
+    whole = stops.0;
+    meaning = stops.1;
+    stopped = subst (λ (file : List ℕ). IsStopped file job.text olds_of (missing_blocks job.batch (length rows_of) stops.0) new.may_leave) (ran.syncs.file ran.honest)
+        (by_count (λ n. IsStopped mid.file job.text olds_of (missing_blocks job.batch n stops.0) new.may_leave) stops.2);
+  }
+
+  leaves : 1 ≤ job.batch → (answer : Answer) (root : Node) → Some root ≡ last_of job.nodes
+      → IfOk answer (λ report. AllAdded job.nodes told job.text job.batch found_of mid.file new.file report)
+      → OnOk answer (IsSettled new) → (answer ≡ Err (Fault fault.Full) → IsSettled new) → (answer ≡ Err (Fault fault.Full) → Fills) → (answer ≡ Err (Fault fault.Disk) → StopsAt)
+      → (IsUnwritten answer → Spares old new) → ((place : ℕ) → answer ≢ Err (Fault (fault.NotATable place))) → answer ≢ Err (Fault fault.WorkflowDiffers)
+      → Leaves job told rows_of olds_of (gate_of found_of job.text) old new answer
+  leaves some (Ok report) root last done settled full_settled fills stops unwritten table flow = complete some report root last settled done
+  leaves some (Err Memory) root last done settled full_settled fills stops unwritten table flow = unwritten tt
+  leaves some (Err (Fault fault.Depot)) root last done settled full_settled fills stops unwritten table flow = unwritten tt
+  leaves some (Err (Fault fault.NotBuilt)) root last done settled full_settled fills stops unwritten table flow = unwritten tt
+  leaves some (Err (Fault fault.Full)) root last done settled full_settled fills stops unwritten table flow = full (full_settled refl) (fills refl)
+  leaves some (Err (Fault fault.Disk)) root last done settled full_settled fills stops unwritten table flow = inr (stopped_adding (stops refl))
+  leaves some (Err (Fault (fault.NotATable place))) root last done settled full_settled fills stops unwritten table flow = absurd (table place refl)
+  leaves some (Err (Fault fault.WorkflowDiffers)) root last done settled full_settled fills stops unwritten table flow = absurd (flow refl)
+
+  adding : 1 ≤ job.batch → (answer : Answer) (root : Node) → Some root ≡ last_of job.nodes
+      → IfOk answer (λ report. AllAdded job.nodes told job.text job.batch found_of mid.file new.file report)
+      → OnOk answer (IsSettled new) → (answer ≡ Err (Fault fault.Full) → IsSettled new) → (answer ≡ Err (Fault fault.Full) → Fills) → (answer ≡ Err (Fault fault.Disk) → StopsAt)
+      → (IsUnwritten answer → Spares old new) → ((place : ℕ) → answer ≢ Err (Fault (fault.NotATable place))) → answer ≢ Err (Fault fault.WorkflowDiffers)
+      → AddsTo job told rows_of old new answer
+  adding some answer root last done settled full_settled fills stops unwritten table flow = record {
+    olds = olds_of;
+    decodes = decodes agree once law job told found_of old mid new ran;
+    gate = gate_of found_of job.text;
+    at = at agree once law job told found_of old mid new ran;
+    moments = adds agree once law job told found_of old mid new ran;
+    leaves = leaves some answer root last done settled full_settled fills stops unwritten table flow;
+  }
+
+  -- a load that went on, on an honest disk
+  pub went_on : 1 ≤ job.batch → (depot still : DepotState) → depot.files ≡ told → (answer : Answer) (root : Node) → Some root ≡ last_of job.nodes
+      → IfOk answer (λ report. AllAdded job.nodes told job.text job.batch found_of mid.file new.file report)
+      → OnOk answer (IsSettled new) → (answer ≡ Err (Fault fault.Full) → IsSettled new) → (answer ≡ Err (Fault fault.Full) → Fills) → (answer ≡ Err (Fault fault.Disk) → StopsAt)
+      → (IsUnwritten answer → Spares old new) → ((place : ℕ) → answer ≢ Err (Fault (fault.NotATable place))) → answer ≢ Err (Fault fault.WorkflowDiffers)
+      → (state : State) → IsFound old.file job.text (columns_of job) state → Does job depot still old new answer state
+  went_on some depot still are answer root last done settled full_settled fills stops unwritten table flow state found =
+      subst (Does job depot still old new answer)
+      (found_once agree once old.file job.text (columns_of job) (rows rows_of false) state (held agree once law job told found_of old mid new ran) found)
+      (subst (λ (o : Option Files). AddsTo job o rows_of old new answer) (sym are) (adding some answer root last done settled full_settled fills stops unwritten table flow))
+
+-- what the answer of a load that went on rests on
+pub rests_of : (job : Job) (depot still : DepotState) (old mid new : DiskState) (answer : Answer) → old.faults ≤ mid.faults
+    → (answer ≡ Err (Fault fault.NotBuilt) → (files : Files) → depot.files ≡ Some files → whole_in job.nodes files ≡ None)
+    → IfFault answer (IsCaused (Rose depot.faults still.faults) (Rose mid.faults new.faults)) → RestsOn job depot still old new answer
+rests_of job depot still old mid new (Ok report) later none cause = tt
+rests_of job depot still old mid new (Err Memory) later none cause = tt
+rests_of job depot still old mid new (Err (Fault fault.Depot)) later none cause = cause
+rests_of job depot still old mid new (Err (Fault fault.NotBuilt)) later none cause = none refl
+rests_of job depot still old mid new (Err (Fault fault.Full)) later none cause = tt
+rests_of job depot still old mid new (Err (Fault fault.Disk)) later none cause = rose_later old.faults mid.faults new.faults later cause
+rests_of job depot still old mid new (Err (Fault (fault.NotATable place))) later none cause = tt
+rests_of job depot still old mid new (Err (Fault fault.WorkflowDiffers)) later none cause = tt
