@@ -1,5 +1,5 @@
-pub mod Tellings
 pub mod NodeNames
 pub mod Verdicts
 pub mod Batches
-pub mod Stopped
+pub mod Begun
+pub mod Kept

@@ -1,6 +1,13 @@
--- What there is to be done, without where it lies in memory.
+-- What is found of a flow, without where it lies in memory.
 use Rattle.whload.specs.declared.find.Found.{Found}
-use Rattle.whload.specs.Verdict.{Job, job_for}
+use Rattle.whload.specs.declared.words.Command.{Command}
+use Rattle.whload.specs.declared.words.Command.TheVariants as command
+use Rattle.whload.specs.Commands.{Asked, load}
+use Rattle.whload.specs.Verdict.{FlowText}
 
-abbrev pub job_of : Found → Job
-job_of found = job_for found.batch found.text.items found.flow
+abbrev pub flow_text_of : Found → FlowText
+flow_text_of found = record { text = found.text.items; nodes = found.flow }
+
+-- the command
+abbrev pub asked_of : Command → Asked
+asked_of (command.Load batch) = load batch

@@ -1,9 +1,10 @@
 pub mod Words
+pub mod Commands
 pub mod Reasons
 pub mod Stops
 pub mod Texts
 pub mod Lines
 pub mod Verdict
-pub mod Answers
-pub mod Keepings
 pub mod Found
+pub mod Promises
+pub mod Answers

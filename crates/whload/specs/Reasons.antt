@@ -1,26 +1,41 @@
 -- Why a command wasn't done, and the exit status that tells it.
-use Rattle.std.specs.Prelude.{◌≡◌, ℕ, Option, Some, None, Result, Ok, Err, ⊤}
+use Rattle.std.specs.Prelude.{◌≡◌, ℕ, Bool, true, false, IsTrue, Option, Some, None, Result, Ok, Err, ⊤}
 use Rattle.whload.specs.declared.reason.Reason.{Reason}
 use Rattle.whload.specs.declared.reason.Reason.TheVariants as why
 use Rattle.whload.specs.declared.reason.Unbuilt.TheVariants as unbuilt
+use Rattle.whload.specs.declared.reason.Step.{Step}
+use Rattle.whload.specs.declared.reason.Step.TheVariants as step
 use Rattle.whload.specs.declared.reason.Status.{Status}
 use Rattle.whload.specs.declared.reason.Status.TheVariants as status
 
+-- the one classification, in the order of refusals: a new reason is one line here
+abbrev pub step_of : Reason → Step
+step_of why.Usage = step.Words
+step_of why.FlowMissing = step.Flow
+step_of (why.FlowTooLong size) = step.Flow
+step_of (why.Flow fault) = step.Flow
+step_of (why.Schema name fault) = step.Flow
+step_of (why.NotBuilt unbuilt.Flow) = step.Flow
+step_of (why.NotBuilt unbuilt.Source) = step.Source
+step_of (why.NotATable place) = step.Table
+step_of why.WorkflowDiffers = step.Table
+step_of why.Full = step.Room
+step_of why.Depot = step.Device
+step_of why.Disk = step.Device
+step_of why.Sink = step.Device
+step_of why.Memory = step.Memory
+
+abbrev pub status_at : Step → Status
+status_at step.Words = status.Usage
+status_at step.Flow = status.Schema
+status_at step.Table = status.Table
+status_at step.Source = status.Source
+status_at step.Room = status.Table
+status_at step.Device = status.Device
+status_at step.Memory = status.Memory
+
 abbrev pub status_of : Reason → Status
-status_of why.Usage = status.Usage
-status_of why.FlowMissing = status.Schema
-status_of (why.FlowTooLong size) = status.Schema
-status_of (why.Flow fault) = status.Schema
-status_of (why.Schema name fault) = status.Schema
-status_of (why.NotBuilt unbuilt.Flow) = status.Schema
-status_of (why.NotBuilt unbuilt.Source) = status.Source
-status_of (why.NotATable place) = status.Table
-status_of why.WorkflowDiffers = status.Table
-status_of why.Full = status.Table
-status_of why.Depot = status.Device
-status_of why.Disk = status.Device
-status_of why.Sink = status.Device
-status_of why.Memory = status.Memory
+status_of reason = status_at (step_of reason)
 
 abbrev pub exit_status_of : Status → ℕ
 exit_status_of status.Done = 0
@@ -31,82 +46,23 @@ exit_status_of status.Device = 5
 exit_status_of status.Memory = 6
 exit_status_of status.Table = 7
 
--- it is refused before the table is looked at
-abbrev pub IsEarly : Reason → Type 0
-IsEarly why.Usage = ⊤
-IsEarly why.FlowMissing = ⊤
-IsEarly (why.FlowTooLong size) = ⊤
-IsEarly (why.Flow fault) = ⊤
-IsEarly (why.Schema name fault) = ⊤
-IsEarly (why.NotBuilt unbuilt.Flow) = ⊤
-IsEarly (why.NotBuilt unbuilt.Source) = ⊥
-IsEarly (why.NotATable place) = ⊥
-IsEarly why.WorkflowDiffers = ⊥
-IsEarly why.Full = ⊥
-IsEarly why.Depot = ⊥
-IsEarly why.Disk = ⊥
-IsEarly why.Sink = ⊥
-IsEarly why.Memory = ⊥
+-- the flow is refused
+abbrev pub is_of_flow : Step → Bool
+is_of_flow step.Flow = true
+is_of_flow _ = false
 
--- want of memory, or a device that failed
-abbrev pub IsOutside : Reason → Type 0
-IsOutside why.Depot = ⊤
-IsOutside why.Disk = ⊤
-IsOutside why.Sink = ⊤
-IsOutside why.Memory = ⊤
-IsOutside why.Usage = ⊥
-IsOutside why.FlowMissing = ⊥
-IsOutside (why.FlowTooLong size) = ⊥
-IsOutside (why.Flow fault) = ⊥
-IsOutside (why.Schema name fault) = ⊥
-IsOutside (why.NotBuilt what) = ⊥
-IsOutside (why.NotATable place) = ⊥
-IsOutside why.WorkflowDiffers = ⊥
-IsOutside why.Full = ⊥
+abbrev pub RefusesFlow : Reason → Type 0
+RefusesFlow reason = IsTrue (is_of_flow (step_of reason))
 
--- the table is as it was
-abbrev pub LeavesTable : Reason → Type 0
-LeavesTable why.Usage = ⊤
-LeavesTable why.FlowMissing = ⊤
-LeavesTable (why.FlowTooLong size) = ⊤
-LeavesTable (why.Flow fault) = ⊤
-LeavesTable (why.Schema name fault) = ⊤
-LeavesTable (why.NotBuilt what) = ⊤
-LeavesTable (why.NotATable place) = ⊤
-LeavesTable why.WorkflowDiffers = ⊤
-LeavesTable why.Depot = ⊤
-LeavesTable why.Full = ⊥
-LeavesTable why.Disk = ⊥
-LeavesTable why.Sink = ⊥
-LeavesTable why.Memory = ⊥
-
--- the answer comes from a disk on which nothing is pending
-abbrev pub Settles : Option Reason → Type 0
-Settles None = ⊤
-Settles (Some why.Sink) = ⊤
-Settles (Some why.Full) = ⊤
-Settles (Some (why.NotBuilt unbuilt.Source)) = ⊤
-Settles (Some (why.NotBuilt unbuilt.Flow)) = ⊥
-Settles (Some why.Usage) = ⊥
-Settles (Some why.FlowMissing) = ⊥
-Settles (Some (why.FlowTooLong size)) = ⊥
-Settles (Some (why.Flow fault)) = ⊥
-Settles (Some (why.Schema name fault)) = ⊥
-Settles (Some (why.NotATable place)) = ⊥
-Settles (Some why.WorkflowDiffers) = ⊥
-Settles (Some why.Depot) = ⊥
-Settles (Some why.Disk) = ⊥
-Settles (Some why.Memory) = ⊥
-
--- what is answered of the words and the flow is what there is to be answered, but for a device's fault or want of memory
+-- what is answered of the flow is what there is to be answered, but for the depot's fault or want of memory
 abbrev pub Tells : {X : Type 0} → Result X Reason → Result X Reason → Type 0
 Tells (Ok x) verdict = verdict ≡ Ok x
-Tells (Err reason) verdict = IsEarly reason → verdict ≡ Err reason
+Tells (Err reason) verdict = RefusesFlow reason → verdict ≡ Err reason
 
 -- the same, of a value that is seen by view
 abbrev pub TellsView : {X Y : Type 0} → (X → Y) → Result X Reason → Result Y Reason → Type 0
 TellsView view (Ok x) verdict = verdict ≡ Ok (view x)
-TellsView view (Err reason) verdict = IsEarly reason → verdict ≡ Err reason
+TellsView view (Err reason) verdict = RefusesFlow reason → verdict ≡ Err reason
 
 -- a reason for which the flow is refused, or want of memory, or the depot, which failed
 abbrev pub IsAsked : {X : Type 0} → Type 0 → Result X Reason → Type 0

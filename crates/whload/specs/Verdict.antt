@@ -1,4 +1,4 @@
--- What the words ask for, and the first refusal of them or of the flow.
+-- What a command has to do over the files of a folder, or why its flow is refused.
 use Rattle.std.specs.Prelude.{ℕ, List, Option, Some, None, Result, Ok, Err, if◌then◌else◌, codes}
 use Rattle.outside.specs.Depot.{Files, file_at}
 use Rattle.outside.specs.Whole.{Found, missing, too_large, bytes, found_in}
@@ -13,24 +13,15 @@ use Rattle.flow_types.specs.Names.{name_at}
 use Rattle.flow_types.specs.Graph.{names_of}
 use Rattle.flow_types.specs.Built.{is_built}
 use Rattle.flow_types.specs.Typed.{typed}
-use Rattle.whload.specs.Words.{batch_in}
+use Rattle.whload.specs.Commands.{Asked, Job, job_for}
 use Rattle.whload.specs.declared.reason.Reason.{Reason}
 use Rattle.whload.specs.declared.reason.Reason.TheVariants as why
 use Rattle.whload.specs.declared.reason.Unbuilt.TheVariants as unbuilt
 
--- what there is to be done: the flow and its text, and how many rows a block may have
-pub record Job : Type 0 where
-  pub batch : ℕ
+-- the flow of a folder: its text, and the nodes that it declares
+pub record FlowText : Type 0 where
   pub text : List ℕ
   pub nodes : List Node
-
-abbrev pub job_for : ℕ → List ℕ → List Node → Job
-job_for batch text nodes = record { batch = batch; text = text; nodes = nodes }
-
--- the words are a command
-abbrev pub command_of : Option ℕ → Result ℕ Reason
-command_of None = Err why.Usage
-command_of (Some batch) = Ok batch
 
 -- the flow's text, of what is found of `flow.toml`
 abbrev pub text_in : Found → Result (List ℕ) Reason
@@ -64,20 +55,20 @@ flow_in text = do
   built ← built_in raw
   typed_in raw (typed raw)
 
--- what there is to be done with the flow that the text is
-unfoldable pub job_of_text : ℕ → List ℕ → Result Job Reason
-job_of_text batch text = do
+-- the flow that the text is, or its first fault
+unfoldable pub flow_of_text : List ℕ → Result FlowText Reason
+flow_of_text text = do
   nodes ← flow_in text
-  Ok (job_for batch text nodes)
+  Ok (record { text = text; nodes = nodes })
 
--- what there is to be done with the flow of these files
-unfoldable pub job_in : ℕ → Files → Result Job Reason
-job_in batch files = do
+-- the flow of these files, or why there is none
+unfoldable pub flow_of_files : Files → Result FlowText Reason
+flow_of_files files = do
   text ← text_in (found_in 65536 (file_at files (codes "flow.toml")))
-  job_of_text batch text
+  flow_of_text text
 
--- what these words ask for over these files, or the first refusal
-unfoldable pub verdict : List (List ℕ) → Files → Result Job Reason
-verdict words files = do
-  batch ← command_of (batch_in words)
-  job_in batch files
+-- what a command has to do over these files, or why the flow is refused
+unfoldable pub asked_over : Asked → Files → Result Job Reason
+asked_over command files = do
+  flow ← flow_of_files files
+  Ok (job_for command flow.text flow.nodes)

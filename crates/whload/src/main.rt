@@ -23,7 +23,7 @@ mod texts;
 mod words;
 
 use outside::{FileDisk, FolderDepot, StdSink};
-pub use reason::{Ending, Reason, Status, Unbuilt};
+pub use reason::{Ending, Reason, Status, Step, Unbuilt};
 pub use run::run;
 use std::process::ExitCode;
 use std::rt::{Env, Files};

@@ -1,6 +1,6 @@
 // How a command ends.
 ghost use Rattle.std.specs.Prelude.{◌≡◌};
-ghost use Rattle.whload.specs.Reasons.{status_of, exit_status_of};
+ghost use Rattle.whload.specs.Reasons.{step_of, status_at, status_of, exit_status_of};
 ghost use Rattle.whload.specs.declared.reason.Reason.TheVariants as why;
 
 use flow_types::SchemaFault;
@@ -49,6 +49,26 @@ pub enum Reason {
     Memory,
 }
 
+/// Where a command was stopped, in the order in which causes are looked for. A device's fault, and want of memory,
+/// stand where their call stands.
+#[derive(Clone, Copy, Debug, PartialEq, Eq)]
+pub enum Step {
+    /// The words.
+    Words,
+    /// The flow, and the names and columns in it.
+    Flow,
+    /// The table's file.
+    Table,
+    /// The sources.
+    Source,
+    /// The room for the next block.
+    Room,
+    /// A device failed.
+    Device,
+    /// No memory was found.
+    Memory,
+}
+
 /// How a command ended, as the exit status tells it: 0, 2, 3, 4, 5, 6, 7 in this order.
 #[derive(Clone, Copy, Debug, PartialEq, Eq)]
 pub enum Status {
@@ -69,22 +89,46 @@ pub struct Ending {
 }
 
 impl Reason {
+    /// Where it stops a command.
+    pub fn step(&self) -> Step
+        ensures { result ≡ step_of self.now }
+    {
+        match self {
+            Reason::Usage => Step::Words,
+            Reason::FlowMissing | Reason::FlowTooLong { .. } | Reason::Flow(_) => Step::Flow,
+            Reason::Schema { .. } => Step::Flow,
+            Reason::NotBuilt {
+                what: Unbuilt::Flow,
+            } => Step::Flow,
+            Reason::NotBuilt {
+                what: Unbuilt::Source,
+            } => Step::Source,
+            Reason::NotATable { .. } | Reason::WorkflowDiffers => Step::Table,
+            Reason::Full => Step::Room,
+            Reason::Depot | Reason::Disk | Reason::Sink => Step::Device,
+            Reason::Memory => Step::Memory,
+        }
+    }
+
     pub fn status(&self) -> Status
         ensures { result ≡ status_of self.now }
     {
+        self.step().status()
+    }
+}
+
+impl Step {
+    /// The status of a command that was stopped there.
+    pub fn status(self) -> Status
+        ensures { result ≡ status_at self }
+    {
         match self {
-            Reason::Usage => Status::Usage,
-            Reason::FlowMissing | Reason::FlowTooLong { .. } | Reason::Flow(_) => Status::Schema,
-            Reason::Schema { .. } => Status::Schema,
-            Reason::NotBuilt {
-                what: Unbuilt::Flow,
-            } => Status::Schema,
-            Reason::NotBuilt {
-                what: Unbuilt::Source,
-            } => Status::Source,
-            Reason::NotATable { .. } | Reason::WorkflowDiffers | Reason::Full => Status::Table,
-            Reason::Depot | Reason::Disk | Reason::Sink => Status::Device,
-            Reason::Memory => Status::Memory,
+            Step::Words => Status::Usage,
+            Step::Flow => Status::Schema,
+            Step::Source => Status::Source,
+            Step::Device => Status::Device,
+            Step::Memory => Status::Memory,
+            Step::Table | Step::Room => Status::Table,
         }
     }
 }

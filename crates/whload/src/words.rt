@@ -1,8 +1,39 @@
 // The words of the command line.
-ghost use Rattle.std.specs.Prelude.{◌≡◌, ◌≤◌, map, string_bytes, IfSome};
+ghost use Rattle.std.specs.Prelude.{◌≡◌, ◌≤◌, map, string_bytes, option_map, IfSome};
+ghost use Rattle.whload.specs.Commands.{asked_in, load, IsWithin};
+ghost use Rattle.whload.specs.Found.{asked_of};
 ghost use Rattle.whload.specs.Words.{begins_with_zero, batch_number, default_batch, given_batch, batch_in};
 
 use expr_lang::number_of;
+
+/// A command.
+#[derive(Clone, Copy, Debug, PartialEq, Eq)]
+pub enum Command {
+    /// `load DIR` or `load DIR --batch N`, in blocks of so many rows: 1 to 4,096.
+    Load { batch: u32 },
+}
+
+impl Command {
+    /// How many rows a block may have.
+    pub fn batch(self) -> u32
+        ensures { load result ≡ asked_of self }
+    {
+        match self {
+            Command::Load { batch } => batch,
+        }
+    }
+}
+
+/// The command that the words are, if they are one.
+pub fn command_in(words: &[String]) -> Option<Command>
+    ensures command { option_map asked_of result ≡ asked_in (map string_bytes words.now) }
+    ensures within { IfSome result (λ command. IsWithin (asked_of command)) }
+{
+    match batch_in(words) {
+        Some(batch) => Some(Command::Load { batch }),
+        None => None,
+    }
+}
 
 /// How many rows a block has where the words don't say it.
 const BATCH: u32 = 1000;
@@ -10,8 +41,8 @@ const BATCH: u32 = 1000;
 /// The most rows of a block.
 const MAX_BATCH: i64 = 4096;
 
-/// How many rows a block may have, where the words are `load DIR` or `load DIR --batch N`.
-pub fn batch_in(words: &[String]) -> Option<u32>
+// How many rows a block may have, where the words are `load DIR` or `load DIR --batch N`.
+fn batch_in(words: &[String]) -> Option<u32>
     ensures batch { result ≡ batch_in (map string_bytes words.now) }
     ensures some { IfSome result (λ batch. 1 ≤ batch) }
     ensures few { IfSome result (λ batch. batch ≤ 4096) }

@@ -1,29 +1,43 @@
-use Rattle.std.proofs.Common.{ap, Some}
-use Rattle.whload.proofs.Tellings.{early_told, asked_told, settles_told, leaves_told, memory_told, full_told, memory_is_told}
+use Rattle.std.proofs.Common.{◌≡◌, ap, sym, refl, inl, inr, Some, None, map, string_bytes}
+use Rattle.std.specs.Prelude.{option_map}
+use Rattle.whload.specs.Found.{asked_of}
+use Rattle.whload.proofs.Begun.{untouched}
+use Rattle.whload.proofs.Kept.{begins_keeps, promised, unused}
 use Rattle.whload.proofs.run.run.Goals as goal
 
-pub returns-in-Err-clause-early : goal.returns-in-Err-clause-early
-returns-in-Err-clause-early g c = λ reason is early.
-    c.in-Err.ensures.early reason (ap Some (early_told _ reason _ c.tell.ensures.told is early)) early
+pub returns-in-None-clause-ends : goal.returns-in-None-clause-ends
+returns-in-None-clause-ends g c = record {
+  ended = Some _;
+  promised = unused (map string_bytes c.args.words.now) _ _ _ (rw c.in-None.is at c.command_in.ensures.command) (refl, untouched _);
+  told = c.tell.ensures.told;
+}
 
-pub returns-in-Err-clause-asked : goal.returns-in-Err-clause-asked
-returns-in-Err-clause-asked g c = λ files told reason is.
-    asked_told _ reason _ c.tell.ensures.told (c.in-Err.ensures.asked files told reason is)
+pub returns-in-Ok : goal.returns-in-Ok
+returns-in-Ok g c =
+    let keeping = begins_keeps _ _ _ _ c.carry_out.ensures.begins in
+    record {
+      keeps = keeping.on;
+      never_lost = keeping.nothing;
+      ends = record {
+        ended = None;
+        promised = promised (map string_bytes c.args.words.now) _ _ _ _ (rw c.in-Some.is at c.command_in.ensures.command) (rw c.in-Ok.is at c.carry_out.ensures.begins);
+        told = refl;
+      };
+      status = refl;
+      notes = refl;
+    }
 
-pub returns-in-Err-clause-settled : goal.returns-in-Err-clause-settled
-returns-in-Err-clause-settled g c = λ settles. c.in-Err.ensures.settled (settles_told _ _ c.tell.ensures.told settles)
-
-pub returns-in-Err-clause-untouched : goal.returns-in-Err-clause-untouched
-returns-in-Err-clause-untouched g c = λ leaves. c.in-Err.ensures.untouched (leaves_told _ _ c.tell.ensures.told leaves)
-
-pub returns-in-Err-clause-memory : goal.returns-in-Err-clause-memory
-returns-in-Err-clause-memory g c = λ is files told job meant honest committed ended holds.
-    memory_told _ _ _ _ c.tell.ensures.told is (λ same. c.in-Err.ensures.memory same files told job meant honest committed ended holds)
-    (λ leaves. c.in-Err.ensures.untouched leaves honest job)
-
-pub returns-in-Err-clause-full : goal.returns-in-Err-clause-full
-returns-in-Err-clause-full g c = λ is. c.in-Err.ensures.full (full_told _ _ c.tell.ensures.told is)
-
-pub returns-in-Err-clause-complete : goal.returns-in-Err-clause-complete
-returns-in-Err-clause-complete g c = λ files told job meant honest committed ended holds can no_depot no_disk no_sink.
-    memory_is_told _ _ c.tell.ensures.told (c.in-Err.ensures.complete files told job meant honest committed ended holds can no_depot no_disk no_sink)
+pub returns-in-Err : goal.returns-in-Err
+returns-in-Err g c =
+    let keeping = begins_keeps _ _ _ _ c.carry_out.ensures.begins in
+    record {
+      keeps = keeping.on;
+      never_lost = keeping.nothing;
+      ends = record {
+        ended = Some c.in-Err.reason;
+        promised = promised (map string_bytes c.args.words.now) _ _ _ _ (rw c.in-Some.is at c.command_in.ensures.command) (rw c.in-Err.is at c.carry_out.ensures.begins);
+        told = c.tell-in-Err.ensures.told;
+      };
+      status = c.tell-in-Err.ensures.status;
+      notes = c.tell-in-Err.ensures.notes;
+    }
