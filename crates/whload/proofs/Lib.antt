@@ -3,3 +3,4 @@ pub mod Verdicts
 pub mod Batches
 pub mod Begun
 pub mod Kept
+pub mod Again

@@ -1,5 +1,5 @@
 -- What a command has to do over the files of a folder, or why its flow is refused.
-use Rattle.std.specs.Prelude.{ℕ, List, Option, Some, None, Result, Ok, Err, if◌then◌else◌, codes}
+use Rattle.std.specs.Prelude.{◌≡◌, ℕ, List, Option, Some, None, Result, Ok, Err, if◌then◌else◌, codes}
 use Rattle.outside.specs.Depot.{Files, file_at}
 use Rattle.outside.specs.Whole.{Found, missing, too_large, bytes, found_in}
 use Rattle.tuple_schema.specs.Stops.{◌>>=◌}
@@ -13,7 +13,7 @@ use Rattle.flow_types.specs.Names.{name_at}
 use Rattle.flow_types.specs.Graph.{names_of}
 use Rattle.flow_types.specs.Built.{is_built}
 use Rattle.flow_types.specs.Typed.{typed}
-use Rattle.whload.specs.Commands.{Asked, Job, job_for}
+use Rattle.whload.specs.Commands.{Asked, Job, asked_in, job_for}
 use Rattle.whload.specs.declared.reason.Reason.{Reason}
 use Rattle.whload.specs.declared.reason.Reason.TheVariants as why
 use Rattle.whload.specs.declared.reason.Unbuilt.TheVariants as unbuilt
@@ -72,3 +72,9 @@ unfoldable pub asked_over : Asked → Files → Result Job Reason
 asked_over command files = do
   flow ← flow_of_files files
   Ok (job_for command flow.text flow.nodes)
+
+-- the words ask for this over these files
+pub record AsksFor (words : List (List ℕ)) (files : Files) (job : Job) : Type 0 where
+  pub command : Asked
+  pub is : asked_in words ≡ Some command
+  pub asks : asked_over command files ≡ Ok job

@@ -13,6 +13,7 @@
 mod carry;
 mod find;
 mod flow;
+mod laws;
 mod reason;
 mod run;
 #[cfg(test)]
@@ -23,6 +24,7 @@ mod texts;
 mod words;
 
 use outside::{FileDisk, FolderDepot, StdSink};
+pub use laws::run_again_after_a_crash;
 pub use reason::{Ending, Reason, Status, Step, Unbuilt};
 pub use run::run;
 use std::process::ExitCode;
