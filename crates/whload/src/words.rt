@@ -2,7 +2,7 @@
 ghost use Rattle.std.specs.Prelude.{◌≡◌, ◌≤◌, map, string_bytes, IfSome};
 ghost use Rattle.whload.specs.Words.{begins_with_zero, batch_number, default_batch, given_batch, batch_in};
 
-use expr_lang::number_of;
+use plain_where::number_of;
 
 /// How many rows a block has where the words don't say it.
 const BATCH: u32 = 1000;

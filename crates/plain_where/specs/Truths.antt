@@ -5,11 +5,11 @@ use Rattle.std.specs.Ordering.{int_eq}
 use Rattle.tuple_schema.specs.declared.value.Value.{Value}
 use Rattle.tuple_schema.specs.declared.value.Value.TheVariants as value
 use Rattle.tuple_schema.specs.declared.schema.Column.{Column}
-use Rattle.expr_lang.specs.declared.expr.Comparison.{Comparison}
-use Rattle.expr_lang.specs.declared.expr.Comparison.TheVariants as comparison
-use Rattle.expr_lang.specs.declared.expr.Expr.{Expr}
-use Rattle.expr_lang.specs.declared.expr.Truth.{Truth}
-use Rattle.expr_lang.specs.declared.expr.Truth.TheVariants as truth
+use Rattle.plain_where.specs.declared.expr.Comparison.{Comparison}
+use Rattle.plain_where.specs.declared.expr.Comparison.TheVariants as comparison
+use Rattle.plain_where.specs.declared.expr.Expr.{Expr}
+use Rattle.plain_where.specs.declared.expr.Truth.{Truth}
+use Rattle.plain_where.specs.declared.expr.Truth.TheVariants as truth
 
 -- the first place of a name in the list
 abbrev pub place_of : List (List ℕ) → List ℕ → Option ℕ
