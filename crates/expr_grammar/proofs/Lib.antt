@@ -1,0 +1,11 @@
+pub mod Columns
+pub mod Complete
+pub mod Sound
+pub mod Lexical
+pub mod Standing
+pub mod Bytes
+pub mod Outcome
+pub mod Points
+pub mod Verdict
+pub mod Answering
+pub mod ScanLemmas
