@@ -55,3 +55,11 @@ plain_column (b ∷ bs) h =
     and_from _ _
     (and_from _ _ (and_from _ _ (and_from _ _ (and_from _ _ some sized.1) letters) word.0) (and_from _ _ (not_from_false _ table.0) (not_from_false _ none.0)))
     (not_from_false _ apart.0)
+
+same_by : (p q : Bool) → (p ≡ true → q ≡ true) → (q ≡ true → p ≡ true) → p ≡ q
+same_by true q f g = sym (f refl)
+same_by false true f g = g refl
+same_by false false f g = refl
+
+pub column_same : (w : List ℕ) → is_plain_name w ≡ is_column w
+column_same w = same_by (is_plain_name w) (is_column w) (plain_column w) (column_plain w)

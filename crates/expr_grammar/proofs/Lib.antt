@@ -9,3 +9,7 @@ pub mod Points
 pub mod Verdict
 pub mod Answering
 pub mod ScanLemmas
+pub mod Alike
+pub mod Nones
+pub mod Utf8
+pub mod Numbers

@@ -42,10 +42,11 @@ abbrev pub is_text : List ℕ → Bool
 is_text [] = false
 is_text (b ∷ bs) = (b == 39) && ends_text true bs
 
+-- what follows the first quote, without every other quote; true says that no quote has closed it
 abbrev pub unquoted : Bool → List ℕ → List ℕ
 unquoted b [] = []
 unquoted true (b ∷ bs) = if b == 39 then unquoted false bs else b ∷ unquoted true bs
-unquoted false (b ∷ bs) = 39 ∷ unquoted true bs
+unquoted false (b ∷ bs) = b ∷ unquoted true bs
 
 -- what a text in quotes says
 abbrev pub said : List ℕ → List ℕ

@@ -5,8 +5,10 @@ mod expr;
 mod fault;
 mod scan;
 mod state;
+mod tokens;
 
 pub use expr::{Expr, Operator};
 pub use fault::{ExprFault, ExprWhat};
 pub use scan::{Scan, is_digit};
 pub use state::{Frame, Function, Kind, Mode};
+pub use tokens::{kind_of, is_scale};
