@@ -3,12 +3,14 @@
 
 mod expr;
 mod fault;
+mod reader;
 mod scan;
 mod state;
 mod tokens;
 
 pub use expr::{Expr, Operator};
 pub use fault::{ExprFault, ExprWhat};
+pub use reader::{allows, begins, is_within, reduce, take, take_digit};
 pub use scan::{Scan, is_digit};
 pub use state::{Frame, Function, Kind, Mode};
 pub use tokens::{kind_of, is_scale};
