@@ -13,7 +13,10 @@ use Rattle.tuple_schema.specs.Texts.{is_digit}
 use Rattle.expr_grammar.specs.Tokens.{is_number, ends_number, is_text, is_scale, units, said, unquoted, symbols, is_token, IsLongest, AreSpaces, Reads, Spells}
 use Rattle.expr_grammar.specs.Texts.{IsSpelt, IsText, GoesOn, Begins, BeginsWithin, IsBeyond, IsFault, IsFirstFault, StaysWithin, IsUnexpected}
 use Rattle.expr_grammar.specs.Phrases.{Phrase, IsPhrase, tokens, depth, LeavesFit, IsWithin, tree}
-use Rattle.tuple_schema.specs.Stops.{◌>>=◌}
+use Rattle.std.specs.Prelude.{IfOk}
+use Rattle.tuple_schema.specs.Stops.{◌>>=◌, Gives, IfFault}
+use Rattle.tuple_schema.specs.declared.memory.Stop.{Stop}
+use Rattle.tuple_schema.specs.declared.memory.Stop.TheVariants as stop
 use Rattle.expr_grammar.specs.Machine.{State, takes, takes_in, begins, is_bad_already, beyond, levels_in, past, judged, fault, begun, stepped, read, reading, ended, start}
 use Rattle.expr_grammar.specs.declared.expr.Expr.{Expr}
 use Rattle.expr_grammar.specs.declared.fault.ExprFault.{ExprFault}
@@ -50,6 +53,15 @@ failed f = Err f
 
 err_same : (f g : ExprFault) → failed f ≡ failed g → f ≡ g
 err_same f g h = cc
+
+abbrev fine : Expr → Result Expr ExprFault
+fine x = Ok x
+
+ok_same : (x y : Expr) → fine x ≡ fine y → x ≡ y
+ok_same x y h = cc
+
+ok_err : (x : Expr) (f : ExprFault) → fine x ≡ failed f → ⊥
+ok_err x f h = cc
 
 what_of : (f g : ExprFault) → failed f ≡ failed g → f.what ≡ g.what
 what_of f g same = let both : f ≡ g = err_same f g same in ap (λ h. h.what) both
@@ -469,3 +481,35 @@ fault_read text at what.TooLong size h = absurd h
 pub reading_exact : (text : List ℕ) (f : ExprFault) → IsFirstFault text f → reading text ≡ Err f
 reading_exact text f (inl h) = long text h.0 ∙ ap (λ n. fault n what.TooLong) (sym h.1) ∙ ap (λ w. fault f.at w) (sym h.2)
 reading_exact text f (inr h) = short text h.0 ∙ fault_read text f.at f.what h.0 h.1
+
+-- what a call that gives the reading says
+
+pub given_found : (text : List ℕ) (r : Result Expr (Stop ExprFault)) → Gives r (reading text) → IfOk r (λ x. IsText text x)
+given_found text (Ok x) h = reading_found text x h
+given_found text (Err e) h = tt
+
+pub given_fault : (text : List ℕ) (r : Result Expr (Stop ExprFault)) → Gives r (reading text) → IfFault r (λ f. IsFirstFault text f)
+given_fault text (Ok x) h = tt
+given_fault text (Err stop.Memory) h = tt
+given_fault text (Err (stop.Fault f)) h = reading_faulted text f h
+
+pub given_at : (r : Result Expr (Stop ExprFault)) (one two : Result Expr ExprFault) → one ≡ two → Gives r one → Gives r two
+given_at r one two same h = subst (Gives r) same h
+
+-- each text has one expression or one first fault
+
+pub one_expression : (text : List ℕ) (x y : Expr) → IsText text x → IsText text y → x ≡ y
+one_expression text x y h k = ok_same x y (sym (reading_only text x h) ∙ reading_only text y k)
+
+pub one_fault : (text : List ℕ) (f g : ExprFault) → IsFirstFault text f → IsFirstFault text g → f ≡ g
+one_fault text f g h k = err_same f g (sym (reading_exact text f h) ∙ reading_exact text g k)
+
+pub not_both : (text : List ℕ) (x : Expr) (f : ExprFault) → IsText text x → IsFirstFault text f → ⊥
+not_both text x f h k = ok_err x f (sym (reading_only text x h) ∙ reading_exact text f k)
+
+either_by : (text : List ℕ) (r : Result Expr ExprFault) → reading text ≡ r → ((x : Expr) × IsText text x) ⊎ ((f : ExprFault) × IsFirstFault text f)
+either_by text (Ok x) h = inl (x, reading_found text x h)
+either_by text (Err f) h = inr (f, reading_faulted text f h)
+
+pub either : (text : List ℕ) → ((x : Expr) × IsText text x) ⊎ ((f : ExprFault) × IsFirstFault text f)
+either text = either_by text (reading text) refl

@@ -13,3 +13,6 @@ pub mod Alike
 pub mod Nones
 pub mod Utf8
 pub mod Numbers
+pub mod Past
+pub mod Ranges
+pub mod Turns

@@ -523,6 +523,10 @@ pub scanned_first : (b : ℕ) → IsScanned (scan_first b) (b ∷ [])
 unfolding scan_of
 scanned_first b = (refl, first_sound (is_lower b) (is_digit b) (b == 39))
 
+pub scan_one : (b : ℕ) → scan_of (b ∷ []) ≡ scan_first b
+unfolding scan_of
+scan_one b = refl
+
 pub scanned_none : IsScanned scan.Empty []
 unfolding scan_of
 scanned_none = (refl, sound_by scan.Empty refl)

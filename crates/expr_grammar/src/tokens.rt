@@ -123,6 +123,7 @@ pub fn is_scale(token: &[u8]) -> bool
 /// The number of units of a number's places, where it is below 2^63.
 pub fn units_of(token: &[u8]) -> Option<i64>
     ensures value { IfSome result (λ n. n ≡ pos (units token.now)) }
+    ensures small { IfSome result (λ _. units token.now < 2 ^ 63) }
     ensures large { IfNone result (2 ^ 63 ≤ units token.now) }
 {
     let units = digits_of(token)?;
