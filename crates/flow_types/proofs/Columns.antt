@@ -10,9 +10,9 @@ use Rattle.std.proofs.lemmas.Option.{slice_get_read}
 use Rattle.std.proofs.lemmas.Slice.Eq.{bytes_eq-Decides}
 use Rattle.tuple_schema.specs.declared.schema.Column.{Column}
 use Rattle.tuple_schema.specs.Schemas.{IsSchema, are_distinct}
-use Rattle.workflow_file.specs.Texts.{head_of}
+use Rattle.tuple_schema.specs.Texts.{head_of}
 use Rattle.flow_types.specs.Columns.{int_column, IsInt}
-use Rattle.expr_lang.specs.Truths.{place_of}
+use Rattle.plain_where.specs.Truths.{place_of}
 use Rattle.flow_types.specs.declared.fault.SchemaCause.TheVariants as cause
 use Rattle.flow_types.specs.Names.{least, name_at, is_again, again, no_double, names_in}
 use Rattle.flow_types.specs.Typed.{new_name, renamed, output_column}

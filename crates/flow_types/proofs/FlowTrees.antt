@@ -8,9 +8,9 @@ use Rattle.workflow_file.specs.declared.raw.RawSource.{RawSource}
 use Rattle.workflow_file.specs.declared.raw.RawNode.{RawNode}
 use Rattle.workflow_file.specs.declared.raw.RawFlow.{RawFlow}
 use Rattle.workflow_file.specs.Kept.{KeepsRules}
-use Rattle.expr_lang.specs.declared.expr.Expr.{Expr}
-use Rattle.expr_lang.specs.Texts.{expression_of}
-use Rattle.expr_lang.specs.Truths.{place_of}
+use Rattle.plain_where.specs.declared.expr.Expr.{Expr}
+use Rattle.plain_where.specs.Texts.{expression_of}
+use Rattle.plain_where.specs.Truths.{place_of}
 use Rattle.flow_types.specs.declared.fault.SchemaCause.{SchemaCause}
 use Rattle.flow_types.specs.declared.fault.SchemaFault.{SchemaFault}
 use Rattle.flow_types.specs.declared.fault.NodeId.{NodeId}

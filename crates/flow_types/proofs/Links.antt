@@ -4,7 +4,7 @@ use Rattle.std.proofs.lemmas.List.{take_more, length-map, get_or-map}
 use Rattle.tuple_schema.specs.declared.memory.Stop.{Stop}
 use Rattle.tuple_schema.specs.declared.memory.Stop.TheVariants as stop
 use Rattle.tuple_schema.specs.Stops.{Fails, IfFault}
-use Rattle.expr_lang.specs.Truths.{place_of}
+use Rattle.plain_where.specs.Truths.{place_of}
 use Rattle.flow_types.specs.declared.fault.SchemaFault.{SchemaFault}
 use Rattle.flow_types.specs.Graph.{input_fault, inputs_exist}
 use Rattle.flow_types.proofs.Places.{least_is, least_none}

@@ -2,8 +2,8 @@
 use Rattle.std.proofs.Common.{◌≡◌, ℕ, ◌+◌, ◌<◌, ◌≤◌, List, [], ◌∷◌, ◌++◌, map, filter_map, take, drop, get_or, length, true, false, refl, sym, ◌∙◌, Option, Some, None, arith}
 use Rattle.std.proofs.lemmas.List.{take_more, drop_more, map-append, take-map, get_or-map, length-map}
 use Rattle.std.proofs.lemmas.List.Elements.{filter_map-append}
-use Rattle.workflow_file.specs.Texts.{is_among}
-use Rattle.expr_lang.specs.Truths.{place_of}
+use Rattle.tuple_schema.specs.Texts.{is_among}
+use Rattle.plain_where.specs.Truths.{place_of}
 use Rattle.flow_types.specs.Names.{again, is_again, unknown}
 use Rattle.flow_types.proofs.Places.{least_is, least_none}
 

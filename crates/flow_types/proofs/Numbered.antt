@@ -6,8 +6,8 @@ use Rattle.std.proofs.lemmas.Bool.{cases_Bool, cases_lt, lt-ltb, le-ltb}
 use Rattle.std.proofs.lemmas.List.{map-append, take_more}
 use Rattle.std.proofs.lemmas.Cmp.{nat_list_eq_equiv}
 use Rattle.std.proofs.lemmas.Iterator.Adapters.{position_from-zero}
-use Rattle.workflow_file.specs.Texts.{is_among}
-use Rattle.expr_lang.specs.Truths.{place_of}
+use Rattle.tuple_schema.specs.Texts.{is_among}
+use Rattle.plain_where.specs.Truths.{place_of}
 
 module _ {K : Type 0} (see : K → List ℕ) where
   -- a name has a number where it is among those before it

@@ -7,13 +7,13 @@ use Rattle.std.proofs.lemmas.List.{append-nil, length-map, length-append, get_or
 use Rattle.std.proofs.lemmas.Slice.Eq.{bytes_eq-Decides}
 use Rattle.workflow_file.specs.declared.raw.RawNode.{RawNode}
 use Rattle.workflow_file.specs.declared.raw.RawFlow.{RawFlow}
-use Rattle.workflow_file.specs.Texts.{is_among}
+use Rattle.tuple_schema.specs.Texts.{is_among}
 use Rattle.workflow_file.specs.Nodes.{keys_of}
 use Rattle.workflow_file.specs.Kept.{KeepsNode, KeepsRules}
 use Rattle.flow_types.specs.Built.{is_built_node, is_built_select, is_project, is_built}
 use Rattle.flow_types.specs.Graph.{input_names, names_of, needs_of, links_of, links_in}
 use Rattle.flow_types.specs.Trees.{inputs_below}
-use Rattle.expr_lang.specs.Truths.{place_of}
+use Rattle.plain_where.specs.Truths.{place_of}
 
 -- the kinds that are built have no other input
 no_other_input : (kind : List ℕ) → (kind ≡ codes "select") ⊎ (kind ≡ codes "project")

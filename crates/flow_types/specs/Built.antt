@@ -5,7 +5,7 @@ use Rattle.workflow_file.specs.declared.raw.RawSource.{RawSource}
 use Rattle.workflow_file.specs.declared.raw.RawNode.{RawNode}
 use Rattle.workflow_file.specs.declared.raw.RawFlow.{RawFlow}
 use Rattle.flow_types.specs.Columns.{is_int_column}
-use Rattle.expr_lang.specs.Texts.{expression_of}
+use Rattle.plain_where.specs.Texts.{expression_of}
 
 -- the format is CSV, by name or by default
 abbrev pub is_csv : Option (List ℕ) → Bool

@@ -2,7 +2,7 @@
 use Rattle.std.specs.Prelude.{◌≡◌, ℕ, List, codes, bytes_eq, Bool, false, Option, Some, None}
 use Rattle.tuple_schema.specs.declared.schema.Column.{Column}
 use Rattle.tuple_schema.specs.declared.schema.ColumnKind.TheVariants as kind
-use Rattle.workflow_file.specs.Texts.{head_of, rest_of}
+use Rattle.tuple_schema.specs.Texts.{head_of, rest_of}
 
 -- the rest of `NAME int`
 abbrev pub is_int : Option (List ℕ) → Bool

@@ -3,8 +3,8 @@ use Rattle.std.specs.Prelude.{ℕ, zero, suc, List, [], length, take, get_or, fi
 use Rattle.std.specs.Option.{option_or}
 use Rattle.tuple_schema.specs.Stops.{◌>>=◌}
 use Rattle.tuple_schema.specs.declared.schema.Column.{Column}
-use Rattle.workflow_file.specs.Texts.{is_among}
-use Rattle.expr_lang.specs.Truths.{place_of}
+use Rattle.tuple_schema.specs.Texts.{is_among}
+use Rattle.plain_where.specs.Truths.{place_of}
 use Rattle.flow_types.specs.declared.fault.SchemaCause.{SchemaCause}
 use Rattle.flow_types.specs.declared.fault.SchemaCause.TheVariants as cause
 

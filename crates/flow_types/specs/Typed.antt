@@ -5,11 +5,11 @@ use Rattle.tuple_schema.specs.declared.schema.Column.{Column}
 use Rattle.workflow_file.specs.declared.raw.RawSource.{RawSource}
 use Rattle.workflow_file.specs.declared.raw.RawNode.{RawNode}
 use Rattle.workflow_file.specs.declared.raw.RawFlow.{RawFlow}
-use Rattle.workflow_file.specs.Texts.{head_of, rest_of}
+use Rattle.tuple_schema.specs.Texts.{head_of, rest_of}
 use Rattle.flow_types.specs.Columns.{int_column}
-use Rattle.expr_lang.specs.declared.expr.Expr.{Expr}
-use Rattle.expr_lang.specs.Texts.{expression_of}
-use Rattle.expr_lang.specs.Truths.{place_of}
+use Rattle.plain_where.specs.declared.expr.Expr.{Expr}
+use Rattle.plain_where.specs.Texts.{expression_of}
+use Rattle.plain_where.specs.Truths.{place_of}
 use Rattle.flow_types.specs.declared.fault.SchemaCause.{SchemaCause}
 use Rattle.flow_types.specs.declared.fault.SchemaCause.TheVariants as cause
 use Rattle.flow_types.specs.declared.fault.NodeId.{NodeId}

@@ -54,7 +54,7 @@ fn are_int_columns(texts: &[Text]) -> bool
 }
 
 // Whether the text is `NAME int`.
-#[tactic(auto, unfolding(workflow_file::specs::Texts::rest_of))]
+#[tactic(auto, unfolding(tuple_schema::specs::Texts::rest_of))]
 fn is_int_column(text: &Text) -> bool
     ensures { result ≡ is_int_column text.now }
 {
@@ -72,7 +72,7 @@ fn is_built_select(node: &RawNode) -> bool
     }
     match &node.test {
         None => false,
-        Some(test) => expr_lang::is_built(test.as_str()),
+        Some(test) => plain_where::is_built(test.as_str()),
     }
 }
 

@@ -2,7 +2,7 @@
 ghost use Rattle.std.specs.Prelude.{◌≡◌, ◌<◌, ◌≤◌, ◌++◌, ◌||◌, [], ℕ, Some, false, is_some, map, filter_map, length, vec_len, get_or, option_copied, option_to_list, IsTrue, IfOk, IfSome, OnOk};
 ghost use Rattle.tuple_schema.specs.Stops.{Gives, GivesView, IfFault};
 ghost use Rattle.workflow_file.specs.Kept.{KeepsRules};
-ghost use Rattle.expr_lang.specs.Truths.{place_of};
+ghost use Rattle.plain_where.specs.Truths.{place_of};
 ghost use Rattle.flow_types.specs.Built.{is_built};
 ghost use Rattle.flow_types.specs.Trees.{tree_below, inputs_below};
 ghost use Rattle.flow_types.specs.Graph.{names_of, needs_of, links_of, links_in, AreWithin, fault_at, input_fault, inputs_exist, root_at, uses_of, used_once, is_in, all_reached, flow_tree, graph_of};

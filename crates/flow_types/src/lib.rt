@@ -1,6 +1,6 @@
 //! Typed flows: names looked up, the columns of each node found, or the first fault in them.
 //!
-//! Stands on `workflow_file`, whose raw flows it types, on `expr_lang`, and on `indexmap`, which numbers the
+//! Stands on `workflow_file`, whose raw flows it types, on `plain_where`, and on `indexmap`, which numbers the
 //! names; `kind_laws` gives the nodes their meaning. Read `specs/Graph.antt` first, how nodes are named and
 //! reached, then `specs/Typed.antt`, their columns and the order of faults, `specs/Chain.antt`, what each flow
 //! is, and `specs/NodeTrees.antt`, its tree. Built at this stage are sequences of whole numbers, selections and

@@ -1,7 +1,7 @@
 // The places of the nodes by their names.
 ghost use Rattle.std.specs.Prelude.{◌≡◌, ◌<◌, ◌≤◌, map, length, IfOk, IfSome};
 ghost use Rattle.tuple_schema.specs.Stops.{GivesView};
-ghost use Rattle.expr_lang.specs.Truths.{place_of};
+ghost use Rattle.plain_where.specs.Truths.{place_of};
 ghost use Rattle.flow_types.specs.Graph.{names_differ};
 
 use crate::fault::{SchemaCause, SchemaFault};

@@ -2,7 +2,7 @@
 ghost use Rattle.std.specs.Prelude.{◌≡◌, [], ◌∷◌, IfOk};
 
 use crate::fault::NodeId;
-use expr_lang::Expr;
+use plain_where::Expr;
 use std::alloc::Global;
 use std::marker::Model;
 use tuple_schema::{Memory, Schema, Text};

@@ -2,11 +2,11 @@
 ghost use Rattle.std.specs.Prelude.{◌≡◌, ◌<◌, ◌≤◌, ◌+◌, ℕ, [], ◌∷◌, Some, None, Ok, map, length, filter_map, option_and_then, option_copied, option_to_list, IfOk, IfSome, OnOk, All};
 ghost use Rattle.tuple_schema.specs.Stops.{Gives, GivesView, IfFault};
 ghost use Rattle.tuple_schema.specs.Schemas.{IsSchema};
-ghost use Rattle.workflow_file.specs.Texts.{head_of, rest_of};
+ghost use Rattle.tuple_schema.specs.Texts.{head_of, rest_of};
 ghost use Rattle.workflow_file.specs.Kept.{KeepsRules, KeepsSource, KeepsNode};
 ghost use Rattle.flow_types.specs.Columns.{int_column, IsInt};
-ghost use Rattle.expr_lang.specs.Texts.{expression_of};
-ghost use Rattle.expr_lang.specs.Truths.{place_of};
+ghost use Rattle.plain_where.specs.Texts.{expression_of};
+ghost use Rattle.plain_where.specs.Truths.{place_of};
 ghost use Rattle.flow_types.specs.Names.{names_in, unknown, no_double, no_unknown};
 ghost use Rattle.flow_types.specs.Trees.{tree_below};
 ghost use Rattle.flow_types.specs.Graph.{id_of, links_of, links_in, AreWithin};
@@ -17,9 +17,9 @@ use crate::fault::{NodeId, SchemaCause, SchemaFault};
 use crate::graph::{fault_at, link_below};
 use crate::names::{cols_if, names_in, no_double, place_of};
 use crate::node::{Cols, Inputs, Kind, Node, Source};
-use expr_lang::Expr;
+use plain_where::Expr;
 use std::alloc::Global;
-use tuple_schema::{Column, ColumnKind, Memory, Schema, Stop, Text};
+use tuple_schema::{Column, ColumnKind, Memory, Schema, Stop, Text, rest_of};
 use workflow_file::{RawFlow, RawNode, RawSource};
 
 /// The typed nodes of a tree, inputs first, or the first fault.
@@ -155,7 +155,7 @@ fn int_column(alloc: Global, text: &Text) -> Result<Column, Memory>
 }
 
 // What stands before the first space, or the whole text where it has none.
-#[tactic(auto, unfolding(workflow_file::specs::Texts::head_of))]
+#[tactic(auto, unfolding(tuple_schema::specs::Texts::head_of))]
 fn head_of(alloc: Global, text: &Text) -> Result<Text, Memory>
     ensures { IfOk result (λ t. t ≡ head_of text.now) }
 {
@@ -257,7 +257,7 @@ fn test_of(alloc: Global, node: &RawNode) -> Result<Option<Expr>, Memory>
 {
     match &node.test {
         None => Ok(None),
-        Some(text) => expr_lang::parse(alloc, text.as_str()),
+        Some(text) => plain_where::parse(alloc, text.as_str()),
     }
 }
 
@@ -377,17 +377,5 @@ fn new_name(alloc: Global, text: &Text) -> Result<Text, Memory>
     match rest_of(rest) {
         None => text_of(alloc, rest),
         Some(name) => text_of(alloc, name),
-    }
-}
-
-// What follows the first space.
-#[tactic(auto, unfolding(workflow_file::specs::Texts::rest_of))]
-fn rest_of(text: &str) -> Option<&str>
-    ensures rest { option_copied result ≡ rest_of text.now }
-    ensures shorter { IfSome result (λ rest. length rest.now ≤ length text.now) }
-{
-    match text.split_once(' ') {
-        None => None,
-        Some((_, rest)) => Some(rest),
     }
 }

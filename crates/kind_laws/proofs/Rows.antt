@@ -10,7 +10,7 @@ use Rattle.tuple_schema.specs.Schemas.{Fits, fits, is_of}
 use Rattle.tuple_schema.specs.Tuples.{part}
 use Rattle.flow_types.specs.Columns.{IsInt}
 use Rattle.flow_types.specs.Chain.{Takes, IsOver}
-use Rattle.expr_lang.specs.Truths.{truth_of}
+use Rattle.plain_where.specs.Truths.{truth_of}
 use Rattle.flow_types.specs.declared.node.Kind.{Kind}
 use Rattle.flow_types.specs.declared.node.Kind.TheVariants as node
 use Rattle.kind_laws.specs.Outputs.{is_true, projected, only, output_of}

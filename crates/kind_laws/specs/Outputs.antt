@@ -3,10 +3,10 @@ use Rattle.std.specs.Prelude.{ℕ, List, [], ◌∷◌, Bool, true, false}
 use Rattle.tuple_schema.specs.declared.value.Value.{Value}
 use Rattle.tuple_schema.specs.declared.schema.Column.{Column}
 use Rattle.list_algebra.specs.Outputs.{select, project}
-use Rattle.expr_lang.specs.declared.expr.Expr.{Expr}
-use Rattle.expr_lang.specs.declared.expr.Truth.{Truth}
-use Rattle.expr_lang.specs.declared.expr.Truth.TheVariants as truth
-use Rattle.expr_lang.specs.Truths.{truth_of}
+use Rattle.plain_where.specs.declared.expr.Expr.{Expr}
+use Rattle.plain_where.specs.declared.expr.Truth.{Truth}
+use Rattle.plain_where.specs.declared.expr.Truth.TheVariants as truth
+use Rattle.plain_where.specs.Truths.{truth_of}
 use Rattle.flow_types.specs.declared.node.Kind.{Kind}
 use Rattle.flow_types.specs.declared.node.Kind.TheVariants as kind
 

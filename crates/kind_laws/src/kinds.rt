@@ -1,10 +1,10 @@
 // What each kind makes of the rows of its input.
 ghost use Rattle.std.specs.Prelude.{◌≡◌, ◌<◌, length, map, All, IsSome, IfOk};
 ghost use Rattle.std.specs.List.{filter};
-ghost use Rattle.expr_lang.specs.Truths.{place_of, truth_at};
+ghost use Rattle.plain_where.specs.Truths.{place_of, truth_at};
 ghost use Rattle.kind_laws.specs.Outputs.{is_true, selected, projected};
 
-use expr_lang::{Expr, Truth, truth_at};
+use plain_where::{Expr, Truth, truth_at};
 use std::alloc::Global;
 use tuple_schema::{Fields, Memory, Schema, Tuple, Tuples};
 

@@ -1,6 +1,6 @@
 //! What a flow means on whole lists: the list that each kind makes of the lists of its inputs.
 //!
-//! Stands on `flow_types`, whose nodes it gives their meaning, and on `expr_lang`. `load_runner` loads
+//! Stands on `flow_types`, whose nodes it gives their meaning, and on `plain_where`. `load_runner` loads
 //! what `whole` makes of the sources. Read `specs/Outputs.antt` first, one equation for each kind, then
 //! `specs/Wholes.antt`, the meaning of a flow.
 //!

@@ -1,6 +1,6 @@
 -- The commands, as lists of words.
 use Rattle.std.specs.Prelude.{ℕ, ℤ, pos, negsuc, List, [], ◌∷◌, Bool, false, ◌&&◌, ◌==◌, nat_le, bytes_eq, codes, if◌then◌else◌, Option, Some, None}
-use Rattle.expr_lang.specs.Texts.{number_of}
+use Rattle.plain_where.specs.Texts.{number_of}
 
 -- the text begins with the digit 0
 abbrev pub begins_with_zero : List ℕ → Bool

@@ -4,7 +4,7 @@ ghost use Rattle.whload.specs.Commands.{asked_in, load, IsWithin};
 ghost use Rattle.whload.specs.Found.{asked_of};
 ghost use Rattle.whload.specs.Words.{begins_with_zero, batch_number, default_batch, given_batch, batch_in};
 
-use expr_lang::number_of;
+use plain_where::number_of;
 
 /// A command.
 #[derive(Clone, Copy, Debug, PartialEq, Eq)]

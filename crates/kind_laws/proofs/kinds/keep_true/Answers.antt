@@ -1,6 +1,6 @@
 use Rattle.std.proofs.Common.{rules}
 use Rattle.std.proofs.lemmas.Fn.{filter_same}
-use Rattle.expr_lang.specs.Truths.{truth_at}
+use Rattle.plain_where.specs.Truths.{truth_at}
 use Rattle.kind_laws.specs.Outputs.{is_true}
 use Rattle.kind_laws.proofs.kinds.keep_true.Goals as goal
 

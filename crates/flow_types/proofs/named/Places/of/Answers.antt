@@ -1,5 +1,5 @@
 use Rattle.std.proofs.Common.{◌≡◌, sym, ◌∙◌, is_some, true, false, below_more, take, map, refl, arith}
-use Rattle.workflow_file.specs.Texts.{is_among}
+use Rattle.tuple_schema.specs.Texts.{is_among}
 use Rattle.indexmap.proofs.CallerLemmas.{insert_entry-new}
 use Rattle.flow_types.proofs.Lookups.{again_here, again_is, again_none}
 use Rattle.flow_types.proofs.Numbered.{number_before, names_more, numbers_more, no_number}
