@@ -1,5 +1,5 @@
 -- The text of a value, and that it is read again.
-use Rattle.std.proofs.Common.{◌≡◌, ◌<◌, ◌≤◌, ◌+◌, ◌-◌, ◌*◌, ◌/◌, ◌%◌, ◌^◌, ℕ, zero, suc, List, [], ◌∷◌, ◌++◌, length, fold, Bool, true, false, cond, eqb, ltb, ◌&&◌, ◌||◌, Result, Ok, Err, refl, sym, ap, subst, ◌∙◌, arith, length-append, IsUtf8}
+use Rattle.std.proofs.Common.{◌≡◌, ◌<◌, ◌≤◌, ◌+◌, ◌-◌, ◌*◌, ◌/◌, ◌%◌, ◌^◌, ℕ, zero, suc, List, [], ◌∷◌, ◌++◌, length, Bool, true, false, cond, eqb, ltb, Result, Ok, refl, sym, ap, subst, ◌∙◌, arith, length-append, IsUtf8}
 use Rattle.std.specs.Prelude.{ℤ, pos, negsuc}
 use Rattle.std.specs.Char.{is_ascii_digit}
 use Rattle.std.specs.Fmt.{decimal, signed_decimal}
@@ -24,7 +24,7 @@ use Rattle.tuple_schema.specs.declared.schema.ColumnKind.TheVariants as kind
 use Rattle.tuple_schema.specs.Schemas.{is_of}
 use Rattle.row_codec.specs.declared.fields.FieldFault.{FieldFault}
 use Rattle.row_codec.specs.Decoding.{IsEncodable}
-use Rattle.row_codec.specs.Fields.{minus, plus, point, zero_digit, are_digits, digits_value, natural_of, units_of, scaled, is_negative, without_sign, signed, is_i64, in_range, number_of, text_of_field, value_of, empty_value, field_value}
+use Rattle.row_codec.specs.Fields.{minus, plus, point, zero_digit, are_digits, digits_value, natural_of, units_of, scaled, is_negative, without_sign, is_i64, in_range, number_of, text_of_field, value_of, empty_value, field_value}
 use Rattle.row_codec.specs.Numbers.{digits_after}
 use Rattle.row_codec.specs.Printing.{last_digits, size_text, units_text, places_of, field_text, reread}
 use Rattle.row_codec.proofs.Sizes.{digits_are, units_parts}

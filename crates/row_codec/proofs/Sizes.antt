@@ -1,9 +1,9 @@
 -- The digits of a size before and behind its point.
-use Rattle.std.proofs.Common.{◌≡◌, ◌≢◌, ◌<◌, ◌≤◌, ◌+◌, ◌*◌, ◌-◌, ◌^◌, ℕ, zero, suc, List, [], ◌∷◌, ◌++◌, length, take, drop, fold, min, Bool, true, false, cond, eqb, ltb, not, ◌&&◌, Ok, Err, refl, sym, ap, ◌∙◌, arith, append_assoc, length-append, length-drop, get_or, drop-cons, add-one, ◌⊎◌, inl, inr}
+use Rattle.std.proofs.Common.{◌≡◌, ◌≢◌, ◌<◌, ◌≤◌, ◌+◌, ◌*◌, ◌-◌, ◌^◌, ℕ, suc, List, [], ◌∷◌, ◌++◌, length, take, drop, min, true, false, eqb, ltb, ◌&&◌, Ok, Err, refl, sym, ap, ◌∙◌, arith, append_assoc, length-append, length-drop, get_or, drop-cons, add-one, inl, inr}
 use Rattle.std.proofs.Math.Nat.{le-mul_of_pos_right, one-le-pow}
 use Rattle.std.proofs.Math.Bool.{and-false}
 use Rattle.std.specs.Char.{is_ascii_digit}
-use Rattle.std.specs.List.{list_all, before_first, after_first}
+use Rattle.std.specs.List.{list_all}
 use Rattle.std.proofs.lemmas.Bool.Decides.{nat_tests}
 use Rattle.std.proofs.lemmas.Bool.{cases_lt, le-ltb, lt-ltb, and_parts, and_from}
 use Rattle.std.proofs.lemmas.List.{append-nil, nil_from_length, take_all, take-append-drop}

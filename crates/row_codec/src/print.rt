@@ -10,11 +10,7 @@ use std::alloc::AllocError;
 use tuple_schema::{Column, ColumnKind, FieldRef, Memory};
 
 /// Appends the text of a value. At Err the buffer is as it was, but may have more room.
-pub fn print_field(
-    value: FieldRef<'_>,
-    column: &Column,
-    into: &mut Vec<u8>,
-) -> Result<(), Memory>
+pub fn print_field(value: FieldRef<'_>, column: &Column, into: &mut Vec<u8>) -> Result<(), Memory>
     requires kind { IsTrue (is_of column.now.kind true (lent value)) }
     requires scaled { HasScale column.now.kind }
     ensures ok { OnOk result
@@ -32,11 +28,7 @@ pub fn print_field(
 }
 
 // Appends the text of a value. At Err a part of it may stand there.
-fn append_text(
-    value: FieldRef<'_>,
-    kind: ColumnKind,
-    into: &mut Vec<u8>,
-) -> Result<(), AllocError>
+fn append_text(value: FieldRef<'_>, kind: ColumnKind, into: &mut Vec<u8>) -> Result<(), AllocError>
     requires kind { IsTrue (is_of kind true (lent value)) }
     requires scaled { HasScale kind }
     ensures ok { OnOk result (into.new.items ≡ into.old.items ++ field_text kind (lent value.entry)) }

@@ -1,4 +1,4 @@
-use Rattle.std.proofs.Common.{Err, refl, sym, ap, ◌∙◌}
+use Rattle.std.proofs.Common.{refl, sym}
 use Rattle.std.proofs.lemmas.Result.{err_from_is_err_and}
 use Rattle.row_codec.proofs.Readings.{are_bytes, row_skips, no_size}
 use Rattle.row_codec.proofs.decode.skip_row.Goals as goal

@@ -1,4 +1,4 @@
-use Rattle.std.proofs.Common.{sym, ◌∙◌}
+use Rattle.std.proofs.Common.{sym}
 use Rattle.std.proofs.lemmas.Result.{err_from_is_err_and}
 use Rattle.row_codec.proofs.ReadingLoop.{skips_on, skip_ends, skip_done}
 use Rattle.row_codec.proofs.decode.skip_values.Goals as goal

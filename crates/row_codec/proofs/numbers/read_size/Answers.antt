@@ -1,4 +1,4 @@
-use Rattle.std.proofs.Common.{◌≡◌, ◌≢◌, ◌≤◌, ◌<◌, ◌-◌, ◌^◌, Ok, ap, length, sym, ◌∙◌, arith}
+use Rattle.std.proofs.Common.{◌≡◌, Ok, ap, length, sym, ◌∙◌, arith}
 use Rattle.std.proofs.lemmas.Bool.Decides.{nat_tests}
 use Rattle.row_codec.proofs.Sizes.{units_empty, units_whole, units_other, units_more, units_alone, units_too_many, units_are, pointed}
 use Rattle.row_codec.proofs.numbers.read_size.Goals as goal

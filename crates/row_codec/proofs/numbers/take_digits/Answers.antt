@@ -1,5 +1,5 @@
-use Rattle.std.proofs.Common.{◌≡◌, [], take, drop, length, refl, sym, ap, ◌∙◌, arith, append-nil}
-use Rattle.std.proofs.lemmas.List.{take_all, take-append-drop}
+use Rattle.std.proofs.Common.{take, refl, sym, ◌∙◌, arith, append-nil}
+use Rattle.std.proofs.lemmas.List.{take_all}
 use Rattle.row_codec.proofs.Sizes.{split_here, stops_here}
 use Rattle.row_codec.proofs.numbers.take_digits.Goals as goal
 
