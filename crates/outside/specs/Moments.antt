@@ -3,8 +3,8 @@ use Rattle.std.specs.Prelude.{◌≡◌, ◌≤◌, ◌⊎◌, ℕ, List, IsTrue
 use Rattle.std.proofs.Common.{◌∙◌, subst, sym, arith, inl, inr, ⊎_elim}
 use Rattle.std.proofs.lemmas.Bool.{cases_lt}
 use Rattle.outside.specs.Counts.{Rose}
-use Rattle.outside.specs.Images.{Torn, Each, AreTorn, SameImages, IsOnly}
-use Rattle.outside.specs.Disk.{DiskState, Elapses, Ticks, Keeps, Syncs, Tears, IsSettled, LeftBetween, AtEachMoment, LeavesNothingNew, Spares, OnlyReads}
+use Rattle.outside.specs.Images.{Torn, Each, SameImages}
+use Rattle.outside.specs.Disk.{DiskState, Elapses, Ticks, Keeps, Syncs, Tears, IsSettled, AtEachMoment, LeavesNothingNew, Spares, OnlyReads}
 use Rattle.outside.specs.Passing.{PassesOver}
 
 pub same_images : (images : List ℕ → Type 0) → SameImages images images

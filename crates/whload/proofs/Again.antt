@@ -36,15 +36,18 @@ pub record Loaded (job : jobs.Job) (old new : Devices) (answer : Option Reason) 
 pub load_of : (words : List (List ℕ)) (files : Files) (job : jobs.Job) (old new : Devices) (answer : Option Reason) → Ends words old new answer → old.depot.files ≡ Some files → AsksFor words files (loads job)
     → (ended : Option Reason) × IsTold ended answer × (Loaded job old new ended ⊎ NotBegun old new ended)
 load_of words files job old new answer ends told asks =
-    let begins : promises.Begins asks.command old new ends.ended = subst (λ (o : Option Asked). Promised o old new ends.ended) asks.is ends.promised in
-    (ends.ended, ends.told, ⊎_elim
-    (λ runs. inl (record {
-      found = runs.found;
-      consults = runs.consults;
-      load = same_asked runs.asked (Ok (loads job)) (record old { depot = runs.found }) new ends.ended (runs.is_asked.is files told ∙ asks.asks) runs.does;
-    }))
-    (λ none. inr none)
-    begins)
+    let begins : promises.Begins asks.command old new ends.ended = subst (λ (o : Option Asked). Promised o old new ends.ended) asks.is ends.promised in (
+      ends.ended,
+      ends.told,
+      ⊎_elim
+          (λ runs. inl (record {
+            found = runs.found;
+            consults = runs.consults;
+            load = same_asked runs.asked (Ok (loads job)) (record old { depot = runs.found }) new ends.ended (runs.is_asked.is files told ∙ asks.asks) runs.does;
+          }))
+          (λ none. inr none)
+          begins,
+    )
 
 -- images that stand for the meaning stay so
 pub stays_safe : (words : List (List ℕ)) (files : Files) (job : jobs.Job) (old new : Devices) (answer : Option Reason) → Ends words old new answer → old.depot.files ≡ Some files → AsksFor words files (loads job)

@@ -23,8 +23,8 @@ mod tests;
 mod texts;
 mod words;
 
-use outside::{FileDisk, FolderDepot, StdSink};
 pub use laws::run_again_after_a_crash;
+use outside::{FileDisk, FolderDepot, StdSink};
 pub use reason::{Ending, Reason, Status, Step, Unbuilt};
 pub use run::run;
 use std::process::ExitCode;

@@ -1,4 +1,3 @@
-use Rattle.std.proofs.Common.{◌∙◌}
 use Rattle.outside.specs.Moments.{nothing_new_on}
 use Rattle.commit_disk.proofs.attaching.settle_and_read.Goals as goal
 
