@@ -1,9 +1,10 @@
 // What operators make of numbers. Units are exact in i128; a result outside i64 is none.
-ghost use Rattle.std.specs.Prelude.{◌≡◌, ◌≢◌, ◌≤◌, ◌<◌, ◌+◌, ◌-◌, ◌*◌, ◌/◌, ◌^◌, ◌+ℤ◌, ◌-ℤ◌, ◌*ℤ◌, ◌≤ℤ◌, pos, negsuc, max, int_div, unsigned_abs, IfSome};
-ghost use Rattle.expr_lang.specs.Values.{units, units_if, times_ten, plus, minus, times, over, opposite_number, size, rounded, with_places};
+ghost use Rattle.std.specs.Prelude.{◌≡◌, ◌≢◌, ◌≤◌, ◌<◌, ◌+◌, ◌-◌, ◌*◌, ◌/◌, ◌^◌, ◌+ℤ◌, ◌-ℤ◌, ◌*ℤ◌, ◌≤ℤ◌, pos, negsuc, max, int_div, unsigned_abs, Some};
+ghost use Rattle.expr_lang.specs.Values.{units, units_if, times_ten, ordering, plus, minus, times, over, opposite_number, size, rounded, with_places};
 ghost use Rattle.expr_lang.specs.Views.{seen_number, IsSmall};
 
 use crate::number::{MAX_PLACES, Number};
+use std::cmp::Ordering;
 
 // Ten to the power.
 fn power_of_ten(power: u8) -> i128
@@ -70,6 +71,13 @@ fn subtracted(left: i128, right: i128, places: u8) -> Option<Number>
     ensures { seen_number result ≡ units_if (left -ℤ right) places }
 {
     narrowed(left - right, places)
+}
+
+/// How two numbers are ordered.
+pub fn compare(x: Number, y: Number) -> Ordering
+    ensures { Some result ≡ ordering (units x.units x.places) (units y.units y.places) }
+{
+    times_ten(x.units, y.places).cmp(&times_ten(y.units, x.places))
 }
 
 pub fn sum(x: Number, y: Number) -> Option<Number>
