@@ -3,7 +3,7 @@ ghost use Rattle.std.specs.Prelude.{◌≡◌, ◌≢◌, ◌≤◌, ◌<◌, le
 ghost use Rattle.tuple_schema.specs.Tuples.{lent};
 ghost use Rattle.tuple_schema.specs.Schemas.{IsSchema};
 ghost use Rattle.expr_lang.specs.Trees.{tree_of, IsPlain};
-ghost use Rattle.expr_lang.specs.Values.{Meaning, bytes, truly, meaning, meaning_in, meaning_at, place_of, joined_by, followed_by, plus, minus, times, over, first_of, choice, truth_in, is_nothing, byte_count, value_in, value_of, truth_of};
+ghost use Rattle.expr_lang.specs.Values.{Meaning, bytes, truly, meaning, meaning_in, meaning_at, place_of, joined_by, followed_by, opposite_number, size, with_places, plus, minus, times, over, first_of, choice, truth_in, is_nothing, byte_count, value_in, value_of, truth_of};
 ghost use Rattle.expr_lang.specs.Views.{seen, seen_number, IsShort};
 ghost use Rattle.tuple_schema.specs.Tuples.{IsShort as IsShortValue};
 
@@ -149,5 +149,131 @@ fn over(left: &Held<'_>, right: &Held<'_>) -> Held<'static>
     match (left, right) {
         (Held::Number(x), Held::Number(y)) => Held::of_number(quotient(*x, *y)),
         _ => Held::Null,
+    }
+}
+
+// The left part settles the truth, whatever the right part is.
+fn settled(operator: Operator, left: &Held<'_>) -> Option<Truth>
+    ensures { IfSome result (λ t. (y : Meaning) → joined_by operator (seen left.now) y ≡ truly t) }
+{
+    match (operator, left.truth()) {
+        (Operator::And, Truth::False) => Some(Truth::False),
+        (Operator::Or, Truth::True) => Some(Truth::True),
+        _ => None,
+    }
+}
+
+// The number with its sign turned; what is no number is Null.
+fn negated(part: &Held<'_>) -> Held<'static>
+    ensures seen { seen result ≡ opposite_number (seen part.now) }
+    ensures short { IsShort (seen result) }
+{
+    match part {
+        Held::Number(x) => Held::of_number(opposite(*x)),
+        _ => Held::Null,
+    }
+}
+
+fn size(part: &Held<'_>) -> Held<'static>
+    ensures seen { seen result ≡ size (seen part.now) }
+    ensures short { IsShort (seen result) }
+{
+    match part {
+        Held::Number(x) => Held::of_number(absolute(*x)),
+        _ => Held::Null,
+    }
+}
+
+fn with_places(places: u8, part: &Held<'_>) -> Held<'static>
+    ensures seen { seen result ≡ with_places places (seen part.now) }
+    ensures short { IsShort (seen result) }
+{
+    match part {
+        Held::Number(x) => Held::of_number(rescaled(*x, places)),
+        _ => Held::Null,
+    }
+}
+
+// How many bytes a text has; what is no text is Null.
+fn byte_count(part: &Held<'_>) -> Held<'static>
+    requires { IsShort (seen part.now) }
+    ensures seen { seen result ≡ byte_count (seen part.now) }
+    ensures short { IsShort (seen result) }
+{
+    match part {
+        Held::Lent(text) => Held::of_number(number_of(text.len() as i64, 0)),
+        Held::Made(text) => Held::of_number(number_of(text.len() as i64, 0)),
+        _ => Held::Null,
+    }
+}
+
+/// The meaning of an expression in a row of these columns. Of two parts the second is looked at only
+/// where the first leaves the answer open.
+pub fn evaluate<'a, F: Fields>(
+    alloc: Global,
+    expr: &'a Expr,
+    columns: &[Column],
+    row: &'a F,
+) -> Result<Held<'a>, Memory>
+    ensures seen { IfOk result (λ h. seen h ≡ meaning columns.now (F.tuple row.now) (tree_of expr.now)) }
+    ensures short { IfOk result (λ h. IsShort (seen h)) }
+    ensures plain { IsPlain (tree_of expr.now) → IsOk result }
+{
+    match expr {
+        Expr::Number { units, places } => Ok(Held::of_number(number_of(*units, *places))),
+        Expr::Text(text) => Ok(Held::Lent(text.as_str())),
+        Expr::Column(name) => Ok(column(columns, name, row)),
+        Expr::Infix(operator, a, b) => {
+            let left = evaluate(alloc, a.get(), columns, row)?;
+            if let Some(truth) = settled(*operator, &left) {
+                return Ok(Held::Truth(truth));
+            }
+            let right = evaluate(alloc, b.get(), columns, row)?;
+            joined_by(alloc, *operator, &left, &right)
+        }
+        Expr::Not(a) => {
+            let part = evaluate(alloc, a.get(), columns, row)?;
+            Ok(Held::Truth(not(part.truth())))
+        }
+        Expr::Negated(a) => {
+            let part = evaluate(alloc, a.get(), columns, row)?;
+            Ok(negated(&part))
+        }
+        Expr::IsNull(a) => {
+            let part = evaluate(alloc, a.get(), columns, row)?;
+            Ok(Held::Truth(decided(part.is_null())))
+        }
+        Expr::IsNotNull(a) => {
+            let part = evaluate(alloc, a.get(), columns, row)?;
+            Ok(Held::Truth(decided(!part.is_null())))
+        }
+        Expr::Abs(a) => {
+            let part = evaluate(alloc, a.get(), columns, row)?;
+            Ok(size(&part))
+        }
+        Expr::Length(a) => {
+            let part = evaluate(alloc, a.get(), columns, row)?;
+            Ok(byte_count(&part))
+        }
+        Expr::Scale(a, places) => {
+            let part = evaluate(alloc, a.get(), columns, row)?;
+            Ok(with_places(*places, &part))
+        }
+        Expr::Coalesce(a, b) => {
+            let first = evaluate(alloc, a.get(), columns, row)?;
+            if first.is_null() {
+                evaluate(alloc, b.get(), columns, row)
+            } else {
+                Ok(first)
+            }
+        }
+        Expr::If(c, a, b) => {
+            let test = evaluate(alloc, c.get(), columns, row)?;
+            match test.truth() {
+                Truth::True => evaluate(alloc, a.get(), columns, row),
+                Truth::False => evaluate(alloc, b.get(), columns, row),
+                Truth::Unknown => evaluate(alloc, b.get(), columns, row),
+            }
+        }
     }
 }
