@@ -12,8 +12,8 @@ use Rattle.tuple_schema.specs.declared.value.Value.TheVariants as value
 use Rattle.expr_grammar.specs.declared.expr.Operator.{Operator}
 use Rattle.expr_grammar.specs.declared.expr.Operator.TheVariants as op
 use Rattle.expr_lang.specs.Trees.{Tree, number, text, column, joined, denied, negated, is_null, is_not_null, absolute, length_of, rescaled, coalesced, chosen}
-use Rattle.expr_lang.specs.declared.truth.Truth.{Truth}
-use Rattle.expr_lang.specs.declared.truth.Truth.TheVariants as truth
+use Rattle.expr_lang.specs.declared.logic.Truth.{Truth}
+use Rattle.expr_lang.specs.declared.logic.Truth.TheVariants as truth
 
 -- what an expression means; a number has so many units, and so many places after the point
 pub data Meaning : Type 0 where

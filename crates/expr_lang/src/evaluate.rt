@@ -3,13 +3,14 @@ ghost use Rattle.std.specs.Prelude.{◌≡◌, ◌≢◌, ◌≤◌, ◌<◌, le
 ghost use Rattle.tuple_schema.specs.Tuples.{lent};
 ghost use Rattle.tuple_schema.specs.Schemas.{IsSchema};
 ghost use Rattle.expr_lang.specs.Trees.{tree_of, IsPlain};
-ghost use Rattle.expr_lang.specs.Values.{Meaning, bytes, truly, meaning, meaning_in, meaning_at, place_of, joined_by, followed_by, opposite_number, size, with_places, plus, minus, times, over, first_of, choice, truth_in, is_nothing, byte_count, value_in, value_of, truth_of};
+ghost use Rattle.expr_lang.specs.Values.{Meaning, units, bytes, truly, meaning, meaning_in, meaning_at, place_of, joined_by, followed_by, opposite_number, size, with_places, plus, minus, times, over, first_of, choice, truth_in, is_nothing, byte_count, value_in, value_of, truth_of};
 ghost use Rattle.expr_lang.specs.Views.{seen, seen_number, IsShort};
 ghost use Rattle.tuple_schema.specs.Tuples.{IsShort as IsShortValue};
 
 use crate::arithmetic::{absolute, difference, number_of, opposite, product, quotient, rescaled, sum};
-use crate::held::{Held, both, compared, decided, either, not};
-use crate::truth::Truth;
+use crate::number::Number;
+use crate::held::{Held, compared};
+use crate::logic::{Truth, decided};
 use expr_grammar::{Expr, Operator};
 use std::alloc::Global;
 use tuple_schema::{Column, ColumnKind, FieldRef, Fields, Memory, Schema, Text, Value};
@@ -93,8 +94,8 @@ fn joined_by(alloc: Global, operator: Operator, left: &Held<'_>, right: &Held<'_
     ensures plain { operator ≢ Operator.Join → IsOk result }
 {
     match operator {
-        Operator::Or => Ok(Held::Truth(either(left.truth(), right.truth()))),
-        Operator::And => Ok(Held::Truth(both(left.truth(), right.truth()))),
+        Operator::Or => Ok(Held::Truth(left.truth().or(right.truth()))),
+        Operator::And => Ok(Held::Truth(left.truth().and(right.truth()))),
         Operator::Join => followed_by(alloc, left, right),
         Operator::Plus => Ok(plus(left, right)),
         Operator::Minus => Ok(minus(left, right)),
@@ -233,7 +234,7 @@ pub fn evaluate<'a, F: Fields>(
         }
         Expr::Not(a) => {
             let part = evaluate(alloc, a.get(), columns, row)?;
-            Ok(Held::Truth(not(part.truth())))
+            Ok(Held::Truth(part.truth().not()))
         }
         Expr::Negated(a) => {
             let part = evaluate(alloc, a.get(), columns, row)?;
@@ -275,5 +276,57 @@ pub fn evaluate<'a, F: Fields>(
                 Truth::Unknown => evaluate(alloc, b.get(), columns, row),
             }
         }
+    }
+}
+
+/// The expression's value of a row of the schema.
+pub fn eval<F: Fields>(
+    alloc: Global,
+    expr: &Expr,
+    schema: &Schema,
+    row: &F,
+) -> Result<Value, Memory>
+    ensures { IfOk result (λ v. v ≡ value_of schema.now (F.tuple row.now) (tree_of expr.now)) }
+{
+    let held = evaluate(alloc, expr, schema.columns(), row)?;
+    value_in(alloc, held)
+}
+
+/// The expression's truth of a row of the schema. It takes memory only where texts are joined.
+pub fn truth<F: Fields>(
+    alloc: Global,
+    expr: &Expr,
+    schema: &Schema,
+    row: &F,
+) -> Result<Truth, Memory>
+    ensures truth { IfOk result (λ t. t ≡ truth_of schema.now (F.tuple row.now) (tree_of expr.now)) }
+    ensures plain { IsPlain (tree_of expr.now) → IsOk result }
+{
+    let held = evaluate(alloc, expr, schema.columns(), row)?;
+    Ok(held.truth())
+}
+
+// What is held, as a value of its own.
+fn value_in(alloc: Global, held: Held<'_>) -> Result<Value, Memory>
+    requires { IsShort (seen held) }
+    ensures { IfOk result (λ v. v ≡ value_in (seen held.entry)) }
+{
+    match held {
+        Held::Number(number) => Ok(number_value(number)),
+        Held::Lent(text) => Ok(Value::Text(Text::short(String::from_str(alloc, text)?))),
+        Held::Made(text) => Ok(Value::Text(Text::short(text))),
+        Held::Null => Ok(Value::Null),
+        Held::Truth(_) => Ok(Value::Null),
+    }
+}
+
+// A number without places is an Int, and any other a Dec.
+fn number_value(number: Number) -> Value
+    ensures { result ≡ value_in (units number.units number.places) }
+{
+    if number.places == 0 {
+        Value::Int(number.units)
+    } else {
+        Value::Dec(number.units)
     }
 }

@@ -5,7 +5,7 @@ ghost use Rattle.expr_lang.specs.Views.{seen, seen_number, IsShort};
 
 use crate::arithmetic::compare;
 use crate::number::Number;
-use crate::truth::Truth;
+use crate::logic::{Truth, decided};
 use expr_grammar::Operator;
 use std::alloc::Global;
 use std::cmp::Ordering;
@@ -47,42 +47,6 @@ impl Held<'_> {
     {
         matches!(self, Held::Null)
     }
-}
-
-pub fn not(truth: Truth) -> Truth
-    ensures { result ≡ opposite truth }
-{
-    match truth {
-        Truth::True => Truth::False,
-        Truth::False => Truth::True,
-        Truth::Unknown => Truth::Unknown,
-    }
-}
-
-pub fn both(left: Truth, right: Truth) -> Truth
-    ensures { result ≡ both left right }
-{
-    match (left, right) {
-        (Truth::False, _) | (_, Truth::False) => Truth::False,
-        (Truth::True, Truth::True) => Truth::True,
-        _ => Truth::Unknown,
-    }
-}
-
-pub fn either(left: Truth, right: Truth) -> Truth
-    ensures { result ≡ either left right }
-{
-    match (left, right) {
-        (Truth::True, _) | (_, Truth::True) => Truth::True,
-        (Truth::False, Truth::False) => Truth::False,
-        _ => Truth::Unknown,
-    }
-}
-
-pub fn decided(answer: bool) -> Truth
-    ensures { result ≡ decided answer }
-{
-    if answer { Truth::True } else { Truth::False }
 }
 
 fn asks(operator: Operator, order: Ordering) -> bool
