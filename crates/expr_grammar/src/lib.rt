@@ -1,4 +1,13 @@
-//! The grammar of expressions.
+//! The grammar of expressions: a text read into its tree, or its first fault.
+//!
+//! Stands on `tuple_schema`, which says what a name is. `expr_lang` gives expressions their kinds and
+//! meanings. Read `specs/Tokens.antt`, `specs/Phrases.antt` and `specs/Texts.antt`, in this order:
+//! `IsText` says which texts are an expression's, `IsFirstFault` what is wrong with others. The other
+//! files of `specs/` have the reader that the proofs go through; nobody needs to believe them.
+//!
+//! Promised: `parse` answers the expression of exactly the texts that have one, and exactly the first
+//! fault of any other; `expression_laws`: each text has one expression or one first fault.
+//! Not promised: that memory is found.
 #![tactic(auto)]
 
 mod expr;
@@ -14,7 +23,6 @@ pub use expr::{Expr, Operator};
 pub use fault::{ExprFault, ExprWhat};
 pub use laws::expression_laws;
 pub use parser::{MAX_EXPR_BYTES, parse};
-pub use reader::{allows, begins, is_within, reduce, take, take_digit};
-pub use scan::{Scan, is_digit};
-pub use state::{Frame, Function, Kind, Mode};
-pub use tokens::{kind_of, is_scale};
+
+#[cfg(test)]
+mod tests;

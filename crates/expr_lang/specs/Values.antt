@@ -12,8 +12,8 @@ use Rattle.tuple_schema.specs.declared.value.Value.TheVariants as value
 use Rattle.expr_grammar.specs.declared.expr.Operator.{Operator}
 use Rattle.expr_grammar.specs.declared.expr.Operator.TheVariants as op
 use Rattle.expr_lang.specs.Trees.{Tree, number, text, column, joined, denied, negated, is_null, is_not_null, absolute, length_of, rescaled, coalesced, chosen}
-use Rattle.expr_lang.specs.declared.truth.Truth.{Truth}
-use Rattle.expr_lang.specs.declared.truth.Truth.TheVariants as truth
+use Rattle.expr_lang.specs.declared.logic.Truth.{Truth}
+use Rattle.expr_lang.specs.declared.logic.Truth.TheVariants as truth
 
 -- what an expression means; a number has so many units, and so many places after the point
 pub data Meaning : Type 0 where
@@ -82,11 +82,26 @@ abbrev pub truth_in : Meaning → Truth
 truth_in (truly t) = t
 truth_in _ = truth.Unknown
 
--- numbers are compared exactly, texts by their bytes; Unknown where either is Null
-abbrev pub compared : (Ordering → Bool) → Meaning → Meaning → Truth
-compared test (units x p) (units y q) = decided (test (int_cmp (times_ten x q) (times_ten y p)))
-compared test (bytes s) (bytes t) = decided (test (slice_cmp nat_cmp s t))
-compared test _ _ = truth.Unknown
+-- how two meanings are ordered: numbers exactly, texts by their bytes, and no others
+abbrev pub ordering : Meaning → Meaning → Option Ordering
+ordering (units x p) (units y q) = Some (int_cmp (times_ten x q) (times_ten y p))
+ordering (bytes s) (bytes t) = Some (slice_cmp nat_cmp s t)
+ordering _ _ = None
+
+-- what a comparison asks of an order
+abbrev pub asks : Operator → Ordering → Bool
+asks op.Equal o = is_eq o
+asks op.NotEqual o = is_ne o
+asks op.Less o = is_lt o
+asks op.LessOrEqual o = is_le o
+asks op.Greater o = is_gt o
+asks op.GreaterOrEqual o = is_ge o
+asks _ o = false
+
+-- Unknown where there is no order
+abbrev pub tested : (Ordering → Bool) → Option Ordering → Truth
+tested test None = truth.Unknown
+tested test (Some o) = decided (test o)
 
 -- a sum has the greater number of places
 abbrev pub plus : Meaning → Meaning → Meaning
@@ -157,17 +172,12 @@ choice _ x y = y
 abbrev pub joined_by : Operator → Meaning → Meaning → Meaning
 joined_by op.Or x y = truly (either (truth_in x) (truth_in y))
 joined_by op.And x y = truly (both (truth_in x) (truth_in y))
-joined_by op.Equal x y = truly (compared is_eq x y)
-joined_by op.NotEqual x y = truly (compared is_ne x y)
-joined_by op.Less x y = truly (compared is_lt x y)
-joined_by op.LessOrEqual x y = truly (compared is_le x y)
-joined_by op.Greater x y = truly (compared is_gt x y)
-joined_by op.GreaterOrEqual x y = truly (compared is_ge x y)
 joined_by op.Plus x y = plus x y
 joined_by op.Minus x y = minus x y
 joined_by op.Join x y = followed_by x y
 joined_by op.Times x y = times x y
 joined_by op.Over x y = over x y
+joined_by o x y = truly (tested (asks o) (ordering x y))
 
 -- what an expression means in a tuple of these columns
 abbrev pub meaning : List Column → List Value → Tree → Meaning

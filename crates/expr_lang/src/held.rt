@@ -1,0 +1,88 @@
+// What has been found out of an expression in a row.
+ghost use Rattle.std.specs.Prelude.{◌≡◌, ◌+◌, ◌≤◌, length, Some, option_copied, IfSome, IfOk};
+ghost use Rattle.expr_lang.specs.Values.{Meaning, nothing, bytes, truly, ordering, truth_in, opposite, both, either, decided, tested, asks, is_nothing, followed_by, byte_count};
+ghost use Rattle.expr_lang.specs.Views.{seen, seen_number, IsShort};
+
+use crate::arithmetic::compare;
+use crate::number::Number;
+use crate::logic::{Truth, decided};
+use expr_grammar::Operator;
+use std::alloc::Global;
+use std::cmp::Ordering;
+use tuple_schema::Memory;
+
+/// A meaning. A text is lent by the row or the expression, or was made.
+#[derive(Debug, Drop)]
+pub enum Held<'a> {
+    Null,
+    Number(Number),
+    Lent(&'a str),
+    Made(String),
+    Truth(Truth),
+}
+
+impl Held<'_> {
+    /// A number, or Null.
+    pub fn of_number(number: Option<Number>) -> Held<'static>
+        ensures { seen result ≡ seen_number number }
+    {
+        match number {
+            None => Held::Null,
+            Some(number) => Held::Number(number),
+        }
+    }
+
+    /// The truth; what is no truth is Unknown.
+    pub fn truth(&self) -> Truth
+        ensures { result ≡ truth_in (seen self.now) }
+    {
+        match self {
+            Held::Truth(truth) => *truth,
+            _ => Truth::Unknown,
+        }
+    }
+
+    pub fn is_null(&self) -> bool
+        ensures { result ≡ is_nothing (seen self.now) }
+    {
+        matches!(self, Held::Null)
+    }
+}
+
+fn asks(operator: Operator, order: Ordering) -> bool
+    ensures { result ≡ asks operator order }
+{
+    match operator {
+        Operator::Equal => order.is_eq(),
+        Operator::NotEqual => order.is_ne(),
+        Operator::Less => order.is_lt(),
+        Operator::LessOrEqual => order.is_le(),
+        Operator::Greater => order.is_gt(),
+        Operator::GreaterOrEqual => order.is_ge(),
+        _ => false,
+    }
+}
+
+// The order of two meanings, if they have one.
+fn ordering(left: &Held<'_>, right: &Held<'_>) -> Option<Ordering>
+    ensures { result ≡ ordering (seen left.now) (seen right.now) }
+{
+    match (left, right) {
+        (Held::Number(x), Held::Number(y)) => Some(compare(*x, *y)),
+        (Held::Lent(x), Held::Lent(y)) => Some(x.cmp(y)),
+        (Held::Lent(x), Held::Made(y)) => Some((*x).cmp(y.as_str())),
+        (Held::Made(x), Held::Lent(y)) => Some(x.as_str().cmp(*y)),
+        (Held::Made(x), Held::Made(y)) => Some(x.as_str().cmp(y.as_str())),
+        _ => None,
+    }
+}
+
+// A comparison.
+pub fn compared(operator: Operator, left: &Held<'_>, right: &Held<'_>) -> Truth
+    ensures { result ≡ tested (asks operator) (ordering (seen left.now) (seen right.now)) }
+{
+    match ordering(left, right) {
+        None => Truth::Unknown,
+        Some(order) => decided(asks(operator, order)),
+    }
+}
