@@ -1,7 +1,7 @@
 -- Headers, records and rows, one item after the other.
-use Rattle.std.proofs.Common.{◌≡◌, ◌≢◌, ◌<◌, ◌≤◌, ◌+◌, ℕ, zero, suc, List, [], ◌∷◌, length, drop, get_or, Bool, true, false, ◌&&◌, ◌||◌, cond, eqb, Option, Some, None, Result, Ok, Err, All, refl, sym, ap, ◌∙◌, arith, length-drop, ◌⊎◌, inl, inr}
+use Rattle.std.proofs.Common.{◌≡◌, ◌≢◌, ◌<◌, ◌≤◌, ◌+◌, ℕ, zero, suc, List, [], ◌∷◌, length, drop, get_or, Bool, true, false, ◌||◌, cond, eqb, Option, Some, None, Result, Ok, Err, refl, ap, ◌∙◌, arith, length-drop, inl, inr}
 use Rattle.std.specs.Prelude.{bytes_eq, nat_eq, if◌then◌else◌}
-use Rattle.std.specs.List.{common_prefix_len, starts_with}
+use Rattle.std.specs.List.{starts_with}
 use Rattle.std.proofs.lemmas.List.{drop_all}
 use Rattle.csv.specs.Records.{field_at}
 use Rattle.csv.proofs.RecordFacts.{field-there}
@@ -14,10 +14,9 @@ use Rattle.row_codec.specs.declared.fields.FieldFault.{FieldFault}
 use Rattle.row_codec.specs.Fields.{field_value}
 use Rattle.row_codec.specs.Lending.{tested}
 use Rattle.extractors.specs.declared.fault.CsvFault.{CsvFault}
-use Rattle.extractors.specs.declared.fault.CsvFault.TheVariants as fault
 use Rattle.extractors.specs.declared.fault.RecordFault.{RecordFault}
 use Rattle.extractors.specs.declared.fault.RecordFault.TheVariants as record_fault
-use Rattle.extractors.specs.CsvContent.{named_columns, in_column, values_from, tuple_of, row_fault, in_row, tuples_from, under_header}
+use Rattle.extractors.specs.CsvContent.{named_columns, in_column, values_from, tuple_of, row_fault, in_row, tuples_from}
 use Rattle.extractors.specs.Content.{csv_records, mark, without_mark}
 use Rattle.extractors.proofs.ContentLemmas.{drop_here, drop_field}
 use Rattle.csv.specs.Machine.{Read, next_record}

@@ -1,24 +1,17 @@
 -- What a checked file holds, and its tuples value by value.
-use Rattle.std.proofs.Common.{◌≡◌, ◌≢◌, ◌<◌, ◌≤◌, ◌+◌, ◌-◌, ℕ, zero, suc, List, [], ◌∷◌, ◌++◌, length, drop, get_or, Bool, true, false, ◌&&◌, ◌||◌, cond, eqb, Option, Some, None, Result, Ok, Err, All, refl, sym, ap, subst, ◌∙◌, arith}
-use Rattle.std.specs.Prelude.{slice_get, IsOk, IsTrue}
+use Rattle.std.proofs.Common.{◌≡◌, ◌<◌, ◌≤◌, ◌+◌, ℕ, zero, suc, List, [], ◌∷◌, length, drop, get_or, Bool, true, false, cond, eqb, Some, Result, Ok, Err, All, refl, sym, ap, subst, ◌∙◌, arith}
+use Rattle.std.specs.Prelude.{slice_get, IsOk}
 use Rattle.std.specs.List.{filter_map}
 use Rattle.std.specs.Result.{result_ok}
-use Rattle.std.specs.Borrow.{Bor}
 use Rattle.std.proofs.lemmas.Bool.{and_from}
-use Rattle.std.proofs.lemmas.Bool.Decides.{nat_tests}
 use Rattle.std.proofs.lemmas.List.Elements.{All-nil, All-cons, All-head, All-tail, All-get_or}
 use Rattle.std.proofs.lemmas.Option.{slice_get-get_or}
-use Rattle.csv.specs.Machine.{next_record}
-use Rattle.csv.specs.Reading.{records_from, records_next, default_config, strip_bom}
 use Rattle.csv.specs.Records.{field_at}
-use Rattle.csv.specs.declared.parser.Config.{Config}
-use Rattle.csv.specs.declared.parser.State.{State}
-use Rattle.csv.specs.declared.reader.Reader.{Reader}
 use Rattle.csv.proofs.RecordFacts.{field-get}
 use Rattle.tuple_schema.specs.declared.value.Value.{Value}
 use Rattle.tuple_schema.specs.declared.value.Value.TheVariants as value
 use Rattle.tuple_schema.specs.declared.schema.Column.{Column}
-use Rattle.tuple_schema.specs.Schemas.{HasScale, IsSchema, fits, Fits, is_of}
+use Rattle.tuple_schema.specs.Schemas.{HasScale, fits, Fits, is_of}
 use Rattle.tuple_schema.specs.Stops.{◌>>=◌}
 use Rattle.row_codec.specs.declared.fields.FieldFault.{FieldFault}
 use Rattle.row_codec.specs.Fields.{field_value}
@@ -29,9 +22,9 @@ use Rattle.extractors.specs.declared.fault.CsvFault.TheVariants as fault
 use Rattle.extractors.specs.declared.fault.RecordFault.{RecordFault}
 use Rattle.extractors.specs.declared.fault.RecordFault.TheVariants as record_fault
 use Rattle.extractors.specs.Content.{csv_records, without_mark}
-use Rattle.extractors.specs.CsvContent.{header_of, in_column, values_from, tuple_of, row_fault, in_row, tuples_from, under_header, csv_content}
-use Rattle.extractors.specs.Readers.{IsOpen, to_come, GivesNext}
-use Rattle.extractors.specs.Sources.{good_rows, body_records, file_rows, AreGood, IsChecked, tuple_or_none, good_tuple, IsGoodRecord, CanGoOn}
+use Rattle.extractors.specs.CsvContent.{header_of, in_column, values_from, tuple_of, in_row, tuples_from, under_header, csv_content}
+use Rattle.extractors.specs.Readers.{GivesNext}
+use Rattle.extractors.specs.Sources.{SourceOf, good_rows, body_records, file_rows, AreGood, IsChecked, tuple_or_none, good_tuple, IsGoodRecord}
 
 bind_ok : {A B F : Type 0} (r : Result A F) (f : A → Result B F) (y : B) → (r >>= f) ≡ Ok y → (x : A) × (r ≡ Ok x) × (f x ≡ Ok y)
 bind_ok (Ok x) f y e = (x, refl, e)
@@ -277,3 +270,18 @@ unfolding file_rows
 rows_behind cs file before after found fields all checked next =
     let headed : 1 ≤ length before = rw all checked.headed in
     ap (good_rows cs) (behind_header before after found fields next headed ∙ ap (λ rs. drop 1 rs) all)
+
+good_fit : (cs : List Column) (rs : List (List (List ℕ))) → AreGood cs rs → All (Fits cs) (good_rows cs rs)
+good_fit cs [] good = rw (none_good cs [] refl) (All-nil (Fits cs))
+good_fit cs (r ∷ rs) good =
+    let (here, rest) = rest_good cs (r ∷ rs) rs r refl good in
+    rw (good_cons cs r rs here) (All-cons (Fits cs) (good_tuple cs r) (good_rows cs rs) (has_tuple cs r here).fit (good_fit cs rs rest))
+
+-- the rows of a checked file fit its columns
+pub file_fits : (cs : List Column) (file : List ℕ) → IsChecked cs file → All (Fits cs) (file_rows cs file)
+unfolding file_rows
+file_fits cs file checked = good_fit cs (body_records file) checked.good
+
+-- the same of a source that is seen so
+pub source_fits : (cs : List Column) (file : List ℕ) (seen : SourceOf) → IsChecked cs file → (let source : SourceOf = record { columns = cs; rows = file_rows cs file } in source ≡ seen) → All (Fits seen.columns) seen.rows
+source_fits cs file seen checked same = subst (λ (s : SourceOf). All (Fits s.columns) s.rows) same (file_fits cs file checked)

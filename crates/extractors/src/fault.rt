@@ -15,13 +15,19 @@ pub enum CsvFault {
     Missing,
     /// The file has more than 268,435,456 bytes.
     #[error("file has {size} bytes")]
-    TooLarge { size: u64 },
+    TooLarge {
+        size: u64,
+    },
     /// The first column at which the header differs, or is too short or too long.
     #[error("header differs at column {at}")]
-    BadHeader { at: u32 },
+    BadHeader {
+        at: u32,
+    },
     /// A record with another number of fields than there are columns, whatever they hold.
     #[error("row {row} has another number of fields")]
-    BadCsv { row: u64 },
+    BadCsv {
+        row: u64,
+    },
     /// A field with no value, in a record with the right number of fields.
     #[error("row {row} column {column}: {cause}")]
     BadRow {

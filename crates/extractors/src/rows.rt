@@ -36,9 +36,9 @@ impl<'a> Model for CsvRows<'a> {
     ghost Value = { RowsOf };
 
     ghost view = { λ r. record {
-        columns = r.columns.now;
-        to_come = rows_left r.progress r.columns.now r.reader;
-        sound = is_sound r.progress;
+      columns = r.columns.now;
+      to_come = rows_left r.progress r.columns.now r.reader;
+      sound = is_sound r.progress;
     } };
 
     ghost invariant = { λ r. AreRows r.columns.now r.reader r.progress };
@@ -67,7 +67,11 @@ impl Rows for CsvRows<'_> {
         match read_rows(self.columns, &mut self.reader, &mut self.fields, into, want) {
             Ok(progress) => {
                 self.progress = progress;
-                Ok(if into.len() == 0 { Filled::End } else { Filled::Some })
+                Ok(if into.len() == 0 {
+                    Filled::End
+                } else {
+                    Filled::Some
+                })
             }
             Err(_) => {
                 into.clear();

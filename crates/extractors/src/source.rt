@@ -1,5 +1,6 @@
 // A CSV source: a file that was checked, and its rows.
-ghost use Rattle.std.specs.Prelude.{◌≡◌, ◌≤◌, length, IfOk, true};
+ghost use Rattle.std.specs.Prelude.{◌≡◌, ◌≤◌, All, length, IfOk, true};
+ghost use Rattle.tuple_schema.specs.Schemas.{Fits};
 ghost use Rattle.tuple_schema.specs.Stops.{GivesView};
 ghost use Rattle.extractors.specs.CsvContent.{csv_content};
 
@@ -49,10 +50,17 @@ impl CsvSource {
         })
     }
 
+    pub fn schema(&self) -> &Schema
+        ensures { result.now ≡ self.now.columns }
+    {
+        &self.schema
+    }
+
     /// Lends the rows, which are read again from the file.
     pub fn rows(&self, alloc: Global) -> Result<CsvRows<'_>, Memory>
         ensures to_come { IfOk result (λ r. r.to_come ≡ self.now.rows) }
         ensures columns { IfOk result (λ r. r.columns ≡ self.now.columns) }
+        ensures fit { IfOk result (λ r. All (Fits self.now.columns) r.to_come) }
         ensures sound { IfOk result (λ r. r.sound ≡ true) }
     {
         let mut reader = reader_over(alloc, without_mark(&self.file));
@@ -66,3 +74,6 @@ impl CsvSource {
         })
     }
 }
+
+#[cfg(test)]
+mod tests;

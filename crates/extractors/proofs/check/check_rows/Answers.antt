@@ -1,6 +1,4 @@
-use Rattle.std.proofs.Common.{◌≡◌, Err, length, sym, ap, ◌∙◌, arith}
-
-use Rattle.extractors.specs.Readers.{to_come}
+use Rattle.std.proofs.Common.{Err, length, sym, ap, ◌∙◌, arith}
 use Rattle.extractors.proofs.CheckLemmas.{rows_more, rows_stop, rows_end}
 use Rattle.extractors.proofs.check.check_rows.Goals as goal
 

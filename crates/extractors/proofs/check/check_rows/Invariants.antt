@@ -1,4 +1,4 @@
-use Rattle.std.proofs.Common.{◌≡◌, ◌≤◌, ◌+◌, length}
+use Rattle.std.proofs.Common.{◌≤◌, ◌+◌, length}
 use Rattle.extractors.specs.Readers.{IsOpen, to_come}
 use Rattle.extractors.proofs.CheckLemmas.{RowsFrom}
 use Rattle.extractors.proofs.check.check_rows.Given as goal

@@ -1,6 +1,5 @@
-use Rattle.std.proofs.Common.{◌≡◌, Ok, Some, sym, ap, subst, ◌∙◌, rules}
+use Rattle.std.proofs.Common.{sym, ap, ◌∙◌, rules}
 use Rattle.csv.proofs.RecordFacts.{field-there}
-use Rattle.tuple_schema.specs.Schemas.{HasScale}
 use Rattle.row_codec.specs.Fields.{field_value}
 use Rattle.extractors.proofs.SourceLemmas.{field_of}
 use Rattle.extractors.proofs.record_row.RecordRowFields.field.Goals as goal

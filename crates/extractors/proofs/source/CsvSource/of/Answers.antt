@@ -1,4 +1,4 @@
-use Rattle.std.proofs.Common.{◌≡◌, sym, ap, ◌∙◌}
+use Rattle.std.proofs.Common.{sym, ap, ◌∙◌}
 use Rattle.row_codec.specs.Lending.{tested}
 use Rattle.extractors.specs.CsvContent.{csv_content}
 use Rattle.extractors.proofs.SourceLemmas.{has_content}
