@@ -1,0 +1,116 @@
+// Whether a CSV file has a content, with no tuple and no text made.
+ghost use Rattle.std.specs.Prelude.{◌≡◌, ◌<◌, ◌≤◌, ◌^◌, ◌||◌, bytes_eq, length};
+ghost use Rattle.csv.specs.Records.{fields_of};
+ghost use Rattle.tuple_schema.specs.Schemas.{IsSchema};
+ghost use Rattle.tuple_schema.specs.Stops.{Gives};
+ghost use Rattle.row_codec.specs.Lending.{tested};
+ghost use Rattle.extractors.specs.CsvContent.{named_columns, header_of, tuple_of, tuples_from, csv_content};
+ghost use Rattle.extractors.specs.Readers.{IsOpen, to_come};
+
+use crate::content::{is_named, without_mark};
+use crate::fault::{CsvFault, RecordFault};
+use crate::records::{next_record, reader_over};
+use csv::{ByteRecord, Reader};
+use row_codec::check_field;
+use std::alloc::Global;
+use tuple_schema::{Column, Schema, Stop};
+
+/// The first fault of the file, if it has one. Each record is read into one buffer.
+pub(crate) fn check_content(
+    alloc: Global,
+    file: &[u8],
+    schema: &Schema,
+    any_header: bool,
+) -> Result<(), Stop<CsvFault>>
+    requires { length file.now ≤ 268435456 }
+    ensures { Gives result (tested (csv_content any_header schema.now file.now)) }
+{
+    let columns = schema.columns();
+    let mut reader = reader_over(alloc, without_mark(file));
+    let mut fields = ByteRecord::new(alloc);
+    if !next_record(&mut reader, &mut fields)? {
+        return Err(Stop::Fault(CsvFault::BadHeader { at: 1 }));
+    }
+    match check_header(columns, &fields, any_header) {
+        Ok(()) => check_rows(columns, &mut reader, &mut fields),
+        Err(fault) => Err(Stop::Fault(fault)),
+    }
+}
+
+fn check_header(columns: &[Column], names: &ByteRecord, any_header: bool) -> Result<(), CsvFault>
+    requires { length columns.now ≤ 64 }
+    ensures { result ≡ header_of any_header columns.now (fields_of names.now) }
+{
+    let named = named_columns(columns, names, any_header);
+    if named == columns.len() && named == names.len() {
+        return Ok(());
+    }
+    Err(CsvFault::BadHeader {
+        at: named as u32 + 1,
+    })
+}
+
+// How many columns at the front the header names.
+fn named_columns(columns: &[Column], names: &ByteRecord, any_header: bool) -> usize
+    ensures named { result ≡ named_columns any_header columns.now (fields_of names.now) }
+    ensures few { result ≤ length columns.now }
+{
+    for i in 0..columns.len() {
+        let Some(name) = names.get(i) else {
+            return i;
+        };
+        if !is_name_of(&columns[i], name, any_header) {
+            return i;
+        }
+    }
+    columns.len()
+}
+
+fn is_name_of(column: &Column, name: &[u8], any_header: bool) -> bool
+    ensures { result ≡ (any_header || bytes_eq column.now.name name.now) }
+{
+    any_header || is_named(column, name)
+}
+
+fn check_rows(
+    columns: &[Column],
+    reader: &mut Reader<&[u8]>,
+    fields: &mut ByteRecord,
+) -> Result<(), Stop<CsvFault>>
+    requires schema { IsSchema columns.now }
+    requires running { IsOpen reader.old }
+    requires few { length (to_come reader.old) < 2 ^ 64 }
+    ensures { Gives result (tested (tuples_from 1 columns.now (to_come reader.old))) }
+{
+    let mut row = 0;
+    while next_record(reader, fields)? {
+        row += 1;
+        match check_record(columns, fields) {
+            Ok(()) => {}
+            Err(fault) => return Err(Stop::Fault(fault.at(row))),
+        }
+    }
+    Ok(())
+}
+
+fn check_record(columns: &[Column], fields: &ByteRecord) -> Result<(), RecordFault>
+    requires { IsSchema columns.now }
+    ensures { result ≡ tested (tuple_of columns.now (fields_of fields.now)) }
+{
+    if fields.len() != columns.len() {
+        return Err(RecordFault::Count);
+    }
+    for i in 0..columns.len() {
+        let Some(field) = fields.get(i) else {
+            unreachable!();
+        };
+        match check_field(field, &columns[i]) {
+            Ok(()) => {}
+            Err(cause) => {
+                let column = i as u32 + 1;
+                return Err(RecordFault::Field { column, cause });
+            }
+        }
+    }
+    Ok(())
+}
