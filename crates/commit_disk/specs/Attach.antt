@@ -44,7 +44,8 @@ pub record IsWrongHead (place : ℕ) (image : List ℕ) : Type 0 where
       ⊎ ((place ≡ 8) × HasName image × (HasVersion image → ⊥))
       ⊎ ((place ≡ 12) × HasName image × HasVersion image × (HasText image → ⊥))
 
--- a table of this text and these blocks leads to an open gate at this place, and from there no block leads on to a next gate
+-- a table of this text and these blocks leads to an open gate at this place, and from there no block leads on to a next
+-- gate
 pub record IsStuck (place : ℕ) (image text : List ℕ) (blocks : List Stored) (ended : Bool) : Type 0 where
   pub leads : LeadsTo place image text blocks ended
   pub open_gate : slice_index image place ≡ 1
@@ -54,7 +55,8 @@ pub record IsStuck (place : ℕ) (image text : List ℕ) (blocks : List Stored) 
 -- the image is made and no table, and this is the first wrong place: in the head, or the gate of a block
 abbrev pub IsWrongAt : ℕ → List ℕ → Type 0
 IsWrongAt place image =
-    IsWrongHead place image ⊎ ((text : List ℕ) × (blocks : List Stored) × (ended : Bool) × IsStuck place image text blocks ended)
+    IsWrongHead place image ⊎ ((text : List ℕ) × (blocks : List Stored) × (ended : Bool)
+    × IsStuck place image text blocks ended)
 
 -- the image is a table of this text, up to this place
 abbrev pub IsTable : ℕ → List ℕ → List ℕ → Type 0
@@ -113,5 +115,6 @@ IsVerdict (Err (Fault WorkflowDiffers)) = Unit {0}
 -- of an image and a text there is one verdict
 abbrev pub VerdictsAgree : Type 0
 VerdictsAgree =
-    (image text : List ℕ) (answer other : Result Attached (Stop TableFault)) → IsVerdict answer → IsVerdict other → AttachTells answer image text → AttachTells other image text
+    (image text : List ℕ) (answer other : Result Attached (Stop TableFault)) → IsVerdict answer → IsVerdict other
+    → AttachTells answer image text → AttachTells other image text
     → answer ≡ other

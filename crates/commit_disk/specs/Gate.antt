@@ -15,7 +15,8 @@ pub record KeepsClosed (place : ℕ) (old new : List ℕ) : Type 0 where
   pub gate : HasClosedGateAt place new
   pub before : take place new ≡ take place old
 
--- where the old image has a gate at this place, the new one has it open, and these bytes behind it, over what stood there
+-- where the old image has a gate at this place, the new one has it open, and these bytes behind it, over what stood
+-- there
 abbrev pub OpensGate : ℕ → List ℕ → List ℕ → List ℕ → Type 0
 OpensGate place behind old new =
     (before : List ℕ) (gate : ℕ) (rest : List ℕ) → length before ≡ place → old ≡ before ++ gate ∷ rest

@@ -10,7 +10,8 @@ pub still_itself : (text image : List ℕ) → HasStill text image image
 still_itself text image = record { blocks = λ had there. there; ended = λ had there. there }
 
 -- what has still what an image had that has still what another had
-pub still_both : (text first second third : List ℕ) → HasStill text first second → HasStill text second third → HasStill text first third
+pub still_both : (text first second third : List ℕ) → HasStill text first second → HasStill text second third
+    → HasStill text first third
 still_both text first second third one two = record {
   blocks = λ had there. two.blocks had (one.blocks had there);
   ended = λ had there. two.ended had (one.ended had there);
@@ -25,13 +26,16 @@ grows_now text disk = record {
 }
 
 -- nor where nothing new is left
-pub grows_still : (text : List ℕ) (old new : DiskState) → IsTrue old.honest → LeavesNothingNew old new → Grows text old new
+pub grows_still : (text : List ℕ) (old new : DiskState) → IsTrue old.honest → LeavesNothingNew old new
+    → Grows text old new
 grows_still text old new is nothing = record {
-  keeps = λ earlier later from le to image it. (image, nothing.fewer is earlier later from le to image it, still_itself text image);
+  keeps = λ earlier later from le to image it.
+      (image, nothing.fewer is earlier later from le to image it, still_itself text image);
 }
 
 -- over one span of time and then another
-pub grows_on : (text : List ℕ) (one two three : DiskState) → IsTrue one.honest → Elapses one two → Elapses two three → Grows text one two → Grows text two three → Grows text one three
+pub grows_on : (text : List ℕ) (one two three : DiskState) → IsTrue one.honest → Elapses one two → Elapses two three
+    → Grows text one two → Grows text two three → Grows text one three
 grows_on text one two three is earlier later first second =
     let still = earlier.honest ∙ is in
     let before_two : one.clock ≤ two.clock = earlier.later is in
@@ -43,7 +47,8 @@ grows_on text one two three is earlier later first second =
             | inr u_le ↦ elim (cases_lt two.clock v) [
               | inl past ↦
                   let at = second.keeps two.clock v (omega arith) (omega arith) to image it in
-                  let was = first.keeps u two.clock from u_le (omega arith) at.0 ((later.kept still two.clock (omega arith) at.0).1 at.1) in
+                  let was = first.keeps u two.clock from u_le (omega arith) at.0
+                  ((later.kept still two.clock (omega arith) at.0).1 at.1) in
                   (was.0, (later.kept still u u_le was.0).0 was.1, still_both text was.0 at.0 image was.2 at.2)
               | inr v_le ↦
                   let was = first.keeps u v from le v_le image ((later.kept still v v_le image).1 it) in

@@ -32,7 +32,8 @@ pub record IsInOrder (first gate count : ℕ) : Type 0 where
 -- whatever the old image holds up to the old gate, the new one holds with this block behind it, up to the next gate
 abbrev pub Commits : ℕ → ℕ → Stored → List ℕ → List ℕ → Type 0
 Commits gate next block old new =
-    (text : List ℕ) (blocks : List Stored) → HoldsUpTo gate old text blocks false → HoldsUpTo next new text (blocks ++ block ∷ []) false
+    (text : List ℕ) (blocks : List Stored) → HoldsUpTo gate old text blocks false
+    → HoldsUpTo next new text (blocks ++ block ∷ []) false
 
 -- whatever the old image holds up to the old gate, the new one holds, ended, up to the next gate
 abbrev pub Ends : ℕ → ℕ → List ℕ → List ℕ → Type 0

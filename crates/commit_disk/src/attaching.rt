@@ -20,7 +20,8 @@ use tuple_schema::Stop;
 pub enum TableFault {
     /// A call on the disk failed.
     Disk,
-    /// The file is made and isn't a table: the first wrong field of the head is there, or the gate of the first wrong block.
+    /// The file is made and isn't a table: the first wrong field of the head is there, or the gate of the first wrong
+    /// block.
     NotATable { at: u64 },
     /// The file is a table of another flow text.
     WorkflowDiffers,
@@ -53,7 +54,8 @@ impl From<TableFault> for Stop<TableFault> {
 
 /// Attaches the table of this flow text. Where no memory is found, nothing is done.
 ///
-/// Begins with a sync, so that what it reads is safe from a crash. Each gate and each block's head is read once, and no row.
+/// Begins with a sync, so that what it reads is safe from a crash. Each gate and each block's head is read once, and no
+/// row.
 #[tactic(auto, using(outside::specs::Moments::no_read, outside::specs::Moments::reads_spare))]
 pub fn attach<K: Disk>(
     alloc: Global,
@@ -69,7 +71,8 @@ pub fn attach<K: Disk>(
     ensures elapses { Elapses (K.state disk.old) (K.state disk.new) }
 
     ensures memory { IsErrOf result stop.Memory → disk.new ≡ disk.old }
-    ensures cause { IfFault result (λ found. found ≡ fault.Disk → Rose (K.state disk.old).faults (K.state disk.new).faults) }
+    ensures cause { IfFault result (λ found. found ≡ fault.Disk
+        → Rose (K.state disk.old).faults (K.state disk.new).faults) }
 {
     let mut copy = text.to_vec(alloc)?;
     Ok(settle_and_read(disk, text, &mut copy)?)
@@ -189,7 +192,8 @@ fn pass_gate<K: Disk>(disk: &mut K, size: u64, journal: &mut Journal) -> Result<
     requires within { journal.old.gate < size }
     requires size { size ≤ (K.state disk.old).size }
     ensures tells { IsTrue (K.state disk.old).honest → size ≡ length (K.state disk.old).file
-        → (text : List ℕ) → IsOnTheWay journal.old (K.state disk.old).file text → GateTells result journal.new (K.state disk.old).file text }
+        → (text : List ℕ) → IsOnTheWay journal.old (K.state disk.old).file text
+        → GateTells result journal.new (K.state disk.old).file text }
     ensures within { OnOk result (journal.new.gate < size) }
     ensures onward { IfOk result (λ passed. IsTrue passed → journal.old.gate < journal.new.gate) }
     ensures read { OnlyReads (K.state disk.old) (K.state disk.new) }
@@ -213,7 +217,8 @@ fn read_gates<K: Disk>(disk: &mut K, size: u64, first: u64) -> Result<Journal, T
     requires room { first < 2 ^ 48 }
     requires size { size ≤ (K.state disk.old).size }
     ensures tells { IsTrue (K.state disk.old).honest → size ≡ length (K.state disk.old).file
-        → (text : List ℕ) → first ≡ 16 + length text → LeadsTo first (K.state disk.old).file text [] false → GatesTell result (K.state disk.old).file text }
+        → (text : List ℕ) → first ≡ 16 + length text → LeadsTo first (K.state disk.old).file text [] false
+        → GatesTell result (K.state disk.old).file text }
     ensures within { IfOk result (λ journal. journal.gate < size) }
     ensures sound { IfOk result (λ journal. journal.sound ≡ true) }
     ensures read { OnlyReads (K.state disk.old) (K.state disk.new) }
@@ -227,7 +232,8 @@ fn read_gates<K: Disk>(disk: &mut K, size: u64, first: u64) -> Result<Journal, T
 // Reads the head. Answers the length of its flow text, or None where no table is made.
 fn read_head<K: Disk>(disk: &mut K, size: u64) -> Result<Option<u32>, TableFault>
     requires { size ≤ (K.state disk.old).size }
-    ensures tells { IsTrue (K.state disk.old).honest → size ≡ length (K.state disk.old).file → HeadTells result (K.state disk.old).file }
+    ensures tells { IsTrue (K.state disk.old).honest → size ≡ length (K.state disk.old).file
+        → HeadTells result (K.state disk.old).file }
     ensures fits { IfOk result (λ len. IfSome len (λ n. (17 + n ≤ size) × (n ≤ MAX_FLOW_BYTES))) }
     ensures read { OnlyReads (K.state disk.old) (K.state disk.new) }
     ensures cause { HasDiskCause (K.state disk.old).faults (K.state disk.new).faults result }
@@ -278,7 +284,8 @@ fn read_table<K: Disk>(
 ) -> Result<Attached, TableFault>
     requires copy { length copy.old ≡ length text.now }
     requires size { size ≤ (K.state disk.old).size }
-    ensures tells { IsTrue (K.state disk.old).honest → size ≡ length (K.state disk.old).file → FoundTells result (K.state disk.old).file text.now }
+    ensures tells { IsTrue (K.state disk.old).honest → size ≡ length (K.state disk.old).file
+        → FoundTells result (K.state disk.old).file text.now }
     ensures within { IfOk result (λ found. IsWithin found size) }
     ensures sound { IfOk result IsSound }
     ensures read { OnlyReads (K.state disk.old) (K.state disk.new) }

@@ -118,7 +118,8 @@ fn push_row(buffer: &mut Vec<u8>, row: &[u8])
 // Writes the count of rows and their length.
 fn write_numbers(buffer: &mut Vec<u8>, count: u32, len: u32)
     requires { 9 ≤ vec_len buffer.old }
-    ensures items { buffer.new.items ≡ take 1 buffer.old.items ++ to_be_bytes w32 count ++ to_be_bytes w32 len ++ drop 9 buffer.old.items }
+    ensures items { buffer.new.items ≡ take 1 buffer.old.items ++ to_be_bytes w32 count ++ to_be_bytes w32 len
+        ++ drop 9 buffer.old.items }
     ensures len { vec_len buffer.new ≡ vec_len buffer.old }
     ensures capacity { vec_capacity buffer.new ≡ vec_capacity buffer.old }
 {

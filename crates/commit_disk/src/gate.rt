@@ -35,10 +35,12 @@ fn write_safely<K: Disk>(disk: &mut K, at: u64, bytes: &[u8]) -> Result<(), Fail
 pub fn open_gate<K: Disk>(disk: &mut K, gate: u64, behind: &[u8]) -> Result<(), Failed>
     requires place { gate < (K.state disk.old).size }
     requires room { gate + 1 + length behind.now ≤ 2 ^ 48 }
-    ensures opened { OnOk result (IsTrue (K.state disk.old).honest → OpensGate gate behind.now (K.state disk.old).file (K.state disk.new).file) }
+    ensures opened { OnOk result (IsTrue (K.state disk.old).honest
+        → OpensGate gate behind.now (K.state disk.old).file (K.state disk.new).file) }
     ensures size { OnOk result (gate + length behind.now < (K.state disk.new).size) }
     ensures settled { OnOk result (IsTrue (K.state disk.old).honest → IsSettled (K.state disk.new)) }
-    ensures passes { IsTrue (K.state disk.old).honest → IsSettled (K.state disk.old) → HasClosedGateAt gate (K.state disk.old).file
+    ensures passes { IsTrue (K.state disk.old).honest → IsSettled (K.state disk.old)
+        → HasClosedGateAt gate (K.state disk.old).file
         → PassesOver (KeepsClosed gate (K.state disk.old).file) (OpensGate gate behind.now (K.state disk.old).file)
         (K.state disk.old) (K.state disk.new) }
     ensures elapses { Elapses (K.state disk.old) (K.state disk.new) }
@@ -67,7 +69,8 @@ pub fn close_made_gate<K: Disk>(disk: &mut K) -> Result<(), Failed>
 }
 
 fn is_made_gate_closed<K: Disk>(disk: &mut K) -> Result<bool, Failed>
-    ensures closed { IfOk result (λ closed. IsTrue (K.state disk.old).honest → IsTrue closed ↔ HasClosedGate (K.state disk.old).file) }
+    ensures closed { IfOk result (λ closed. IsTrue (K.state disk.old).honest
+        → IsTrue closed ↔ HasClosedGate (K.state disk.old).file) }
     ensures size { IfOk result (λ closed. IsTrue closed → 0 < (K.state disk.new).size) }
     ensures keeps { Keeps (K.state disk.old) (K.state disk.new) }
     ensures passes { IsTrue (K.state disk.old).honest → IsSettled (K.state disk.old)

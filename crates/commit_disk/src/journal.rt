@@ -132,7 +132,8 @@ impl Journal {
         ensures settled { OnOk result (IsTrue (K.state disk.old).honest → IsSettled (K.state disk.new)) }
         // A crash at any moment of the call leaves the blocks from before it, or those and this one whole.
         ensures any_moment { IsTrue (K.state disk.old).honest → IsSettled (K.state disk.old)
-            → LeavesWhole self.old.gate block.now (K.state disk.old).file (LeftBetween (K.state disk.old) (K.state disk.new)) }
+            → LeavesWhole self.old.gate block.now (K.state disk.old).file
+            (LeftBetween (K.state disk.old) (K.state disk.new)) }
         ensures grows { IsTrue (K.state disk.old).honest → IsSettled (K.state disk.old)
             → (text : List ℕ) (blocks : List Stored) → HoldsUpTo self.old.gate (K.state disk.old).file text blocks false
             → Grows text (K.state disk.old) (K.state disk.new) }
@@ -216,7 +217,8 @@ pub fn make<K: Disk>(alloc: Global, disk: &mut K, text: &[u8]) -> Result<Journal
 // Writes a table whose head is behind the made gate, over a file that is no table.
 fn write_head<K: Disk>(disk: &mut K, behind: &[u8]) -> Result<(), Failed>
     requires { 1 + length behind.now ≤ 2 ^ 48 }
-    ensures done { OnOk result (IsTrue (K.state disk.old).honest → (text : List ℕ) → length text ≤ 65536 → behind.now ≡ head text ++ 0 ∷ []
+    ensures done { OnOk result (IsTrue (K.state disk.old).honest → (text : List ℕ) → length text ≤ 65536
+        → behind.now ≡ head text ++ 0 ∷ []
         → HoldsUpTo (16 + length text) (K.state disk.new).file text [] false) }
     ensures size { OnOk result (length behind.now < (K.state disk.new).size) }
     ensures settled { OnOk result (IsTrue (K.state disk.old).honest → IsSettled (K.state disk.new)) }

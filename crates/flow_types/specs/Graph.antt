@@ -42,12 +42,14 @@ names_differ names = refused (option_map (λ place. fault_at place cause.NameTwi
 
 -- the fault of the node at a place, where it names an input that isn't there
 abbrev pub input_fault : List (List ℕ) → List (List (List ℕ)) → ℕ → Option SchemaFault
-input_fault names needs place = option_map (λ name. fault_at place (cause.NoInput name)) (unknown names (get_or needs place []))
+input_fault names needs place = option_map (λ name. fault_at place (cause.NoInput name))
+    (unknown names (get_or needs place []))
 
 -- the inputs of each node are there, or the least node that names another
 abbrev pub inputs_exist : List (List ℕ) → List (List (List ℕ)) → Result Unit SchemaFault
 inputs_exist names needs =
-    refused (option_and_then (input_fault names needs) (least (length needs) (λ place. is_some (input_fault names needs place))))
+    refused (option_and_then (input_fault names needs) (least (length needs)
+    (λ place. is_some (input_fault names needs place))))
 
 -- the place of the table's input, which has to be there
 abbrev pub root_at : List ℕ → Option ℕ → Result ℕ SchemaFault
@@ -61,7 +63,8 @@ uses_of root links place = count_by (λ p. p == place) (root ∷ concat links)
 -- no node is an input twice, or the least that is
 abbrev pub used_once : ℕ → List (List ℕ) → Result Unit SchemaFault
 used_once root links =
-    refused (option_map (λ place. fault_at place cause.UsedTwice) (least (length links) (λ place. nat_lt 1 (uses_of root links place))))
+    refused (option_map (λ place. fault_at place cause.UsedTwice)
+    (least (length links) (λ place. nat_lt 1 (uses_of root links place))))
 
 -- the tree of a flow, which is at most so many nodes deep as there are
 abbrev pub flow_tree : ℕ → List (List ℕ) → Tree
@@ -74,7 +77,8 @@ is_in tree place = list_any (λ p. p == place) (in_order tree)
 -- the table's input reaches each node, or the least that it doesn't
 abbrev pub all_reached : ℕ → List (List ℕ) → Result Unit SchemaFault
 all_reached root links =
-    refused (option_map (λ place. fault_at place cause.NotReached) (least (length links) (λ place. not (is_in (flow_tree root links) place))))
+    refused (option_map (λ place. fault_at place cause.NotReached)
+    (least (length links) (λ place. not (is_in (flow_tree root links) place))))
 
 -- the tree of a flow whose names fit together, or the first fault
 abbrev pub graph_of : RawFlow → Result Tree SchemaFault

@@ -114,7 +114,8 @@ fn link_of(raw: &RawFlow, places: &Places, place: usize) -> Result<Option<usize>
     requires kept { KeepsRules raw.now }
     requires built { IsTrue (is_built raw.now) }
     requires place { place < 256 }
-    ensures link { IfOk result (λ link. option_to_list link ≡ filter_map (place_of places.now) (get_or (needs_of raw.now) place [])) }
+    ensures link { IfOk result (λ link. option_to_list link ≡ filter_map (place_of places.now)
+        (get_or (needs_of raw.now) place [])) }
     ensures there { OnOk result (is_some (input_fault places.now (needs_of raw.now) place) ≡ false) }
     ensures within { IfOk result (λ link. IfSome link (λ input. input < length places.now)) }
     ensures missing { IfFault result (λ fault. input_fault places.now (needs_of raw.now) place ≡ Some fault) }
@@ -151,7 +152,8 @@ fn count_uses(alloc: Global, root: usize, links: &[Option<usize>]) -> Result<Vec
     requires root { root < length links.now }
     requires within { AreWithin links.now }
     ensures len { IfOk result (λ v. vec_len v ≡ length links.now) }
-    ensures uses { IfOk result (λ v. (place : ℕ) → place < length links.now → get_or v.items place 0 ≡ uses_of root (links_in links.now) place) }
+    ensures uses { IfOk result (λ v. (place : ℕ) → place < length links.now
+        → get_or v.items place 0 ≡ uses_of root (links_in links.now) place) }
 {
     let mut uses = vec![in alloc; 0; links.len()]?;
     uses[root] = 1;
@@ -197,7 +199,8 @@ fn reach(links: &[Option<usize>], depth: usize, place: usize, reached: &mut [boo
     requires place { place < length links.now }
     requires within { AreWithin links.now }
     ensures len { length reached.new ≡ length reached.old }
-    ensures marked { (k : ℕ) → get_or reached.new k false ≡ (get_or reached.old k false || is_in (tree_below (links_in links.now) depth place) k) }
+    ensures marked { (k : ℕ) → get_or reached.new k false ≡ (get_or reached.old k false
+        || is_in (tree_below (links_in links.now) depth place) k) }
 {
     match link_below(links, depth, place) {
         None => {}
@@ -211,7 +214,8 @@ fn mark_reached(alloc: Global, root: usize, links: &[Option<usize>]) -> Result<V
     requires root { root < length links.now }
     requires within { AreWithin links.now }
     ensures len { IfOk result (λ v. vec_len v ≡ length links.now) }
-    ensures reached { IfOk result (λ v. (place : ℕ) → place < length links.now → get_or v.items place false ≡ is_in (flow_tree root (links_in links.now)) place) }
+    ensures reached { IfOk result (λ v. (place : ℕ) → place < length links.now
+        → get_or v.items place false ≡ is_in (flow_tree root (links_in links.now)) place) }
 {
     let mut reached = vec![in alloc; false; links.len()]?;
     reach(links, links.len() - 1, root, &mut reached);

@@ -16,8 +16,10 @@ pub fn tree_laws()
     ensures nodes { (nodes : List Node) → IsChain nodes → in_order (tree_of nodes) ≡ numbers_of nodes }
 
     // Its root is the last node.
-    ensures root { (nodes : List Node) → IsChain nodes → option_map (λ n. n.id.0) (last_of nodes) ≡ Some (number_of (tree_of nodes)) }
+    ensures root { (nodes : List Node) → IsChain nodes → option_map (λ n. n.id.0) (last_of nodes)
+        ≡ Some (number_of (tree_of nodes)) }
 
     // It is the tree that the names in the raw flow make, where they fit together.
-    ensures made { (raw : RawFlow) (whole : Tree) (nodes : List Node) → KeepsRules raw → IsTrue (is_built raw) → graph_of raw ≡ Ok whole → typed raw ≡ Ok nodes → tree_of nodes ≡ whole }
+    ensures made { (raw : RawFlow) (whole : Tree) (nodes : List Node) → KeepsRules raw → IsTrue (is_built raw)
+        → graph_of raw ≡ Ok whole → typed raw ≡ Ok nodes → tree_of nodes ≡ whole }
 {}

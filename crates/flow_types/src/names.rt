@@ -93,8 +93,10 @@ fn places_of(
     names: &[&Text],
     wanted: &[&Text],
 ) -> Result<Vec<usize>, Stop<SchemaCause>>
-    ensures unknown { GivesView (λ _. tt) result (no_unknown (map (λ n. n.now) names.now) (map (λ n. n.now) wanted.now)) }
-    ensures places { IfOk result (λ v. v.items ≡ filter_map (place_of (map (λ n. n.now) names.now)) (map (λ n. n.now) wanted.now)) }
+    ensures unknown { GivesView (λ _. tt) result (no_unknown (map (λ n. n.now) names.now)
+        (map (λ n. n.now) wanted.now)) }
+    ensures places { IfOk result (λ v. v.items ≡ filter_map (place_of (map (λ n. n.now) names.now))
+        (map (λ n. n.now) wanted.now)) }
 {
     let mut places = Vec::new(alloc);
     for name in wanted {

@@ -76,7 +76,8 @@ fn type_node(
     requires place { place < length raw.now.sources + length raw.now.nodes }
     requires source { place < length raw.now.sources → option_copied input ≡ None }
     requires ints { IfSome (option_copied input) (λ n. All IsInt n.schema) }
-    ensures node { Gives result (at_node place (typed_node raw.now place (option_to_list (option_copied input.entry)))) }
+    ensures node { Gives result (at_node place (typed_node raw.now place
+        (option_to_list (option_copied input.entry)))) }
     ensures follows { IfOk result (IsNode (option_copied input.entry)) }
 {
     match type_at(alloc, raw, place, input) {
@@ -324,7 +325,8 @@ fn take_columns(
 ) -> Result<Taken, Stop<SchemaCause>>
     requires { All IsInt columns.now }
     ensures unknown { GivesView (λ _. tt) result (no_unknown (names_in columns.now) (map head_of texts.now)) }
-    ensures places { IfOk result (λ t. t.places.items ≡ filter_map (place_of (names_in columns.now)) (map head_of texts.now)) }
+    ensures places { IfOk result (λ t. t.places.items ≡ filter_map (place_of (names_in columns.now))
+        (map head_of texts.now)) }
     ensures columns { IfOk result (λ t. t.columns.items ≡ output_columns columns.now texts.now) }
     ensures takes { IfOk result (λ t. Takes columns.now t.places.items t.columns.items) }
     ensures len { IfOk result (λ t. length t.columns.items ≡ length texts.now) }
@@ -347,7 +349,8 @@ fn take_columns(
 fn taken_place(alloc: Global, names: &[&Text], text: &Text) -> Result<usize, Stop<SchemaCause>>
     ensures there { IfOk result (λ place. Some place ≡ place_of (map (λ n. n.now) names.now) (head_of text.now)) }
     ensures within { IfOk result (λ place. place < length names.now) }
-    ensures missing { IfFault result (λ cause. (place_of (map (λ n. n.now) names.now) (head_of text.now) ≡ None) × (cause ≡ SchemaCause.UnknownColumn (head_of text.now))) }
+    ensures missing { IfFault result (λ cause. (place_of (map (λ n. n.now) names.now) (head_of text.now) ≡ None)
+        × (cause ≡ SchemaCause.UnknownColumn (head_of text.now))) }
 {
     let column = head_of(alloc, text)?;
     match place_of(names, &column) {

@@ -29,7 +29,8 @@ abbrev pub only : List (List (List Value)) → List (List Value)
 only [] = []
 only (rows ∷ others) = rows
 
--- what a kind makes of the lists of its inputs, of which the first has these columns; a source gives the list of its file
+-- what a kind makes of the lists of its inputs, of which the first has these columns; a source gives the list of its
+-- file
 abbrev pub output_of : Kind → List Column → List (List (List Value)) → List (List Value)
 output_of (kind.Source source) columns lists = only lists
 output_of (kind.Select test) columns lists = selected test columns (only lists)

@@ -19,8 +19,10 @@ list_of (listed ∷ others) number = if listed.number == number then listed.rows
 -- the list that a node gives: a source what its file has, any other what its kind makes of its inputs' lists
 abbrev pub list_from : (ℕ → List (List Value)) → List Listed → Node → Kind → List (List Value)
 list_from truth lists node (kind.Source source) = truth node.id.0
-list_from truth lists node (kind.Select test) = output_of (kind.Select test) node.schema (map (λ input. list_of lists input.0) node.inputs)
-list_from truth lists node (kind.Project from) = output_of (kind.Project from) node.schema (map (λ input. list_of lists input.0) node.inputs)
+list_from truth lists node (kind.Select test) = output_of (kind.Select test) node.schema
+    (map (λ input. list_of lists input.0) node.inputs)
+list_from truth lists node (kind.Project from) = output_of (kind.Project from) node.schema
+    (map (λ input. list_of lists input.0) node.inputs)
 
 -- the lists of the nodes, each behind its inputs; the last one comes first
 abbrev pub with_node : (ℕ → List (List Value)) → List Listed → Node → List Listed

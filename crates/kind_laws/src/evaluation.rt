@@ -28,7 +28,8 @@ pub fn whole(alloc: Global, flow: &Flow, source: Tuples) -> Result<Tuples, Memor
 fn step(alloc: Global, law: Law<'_>, input: Tuples) -> Result<Tuples, Memory>
     requires linked { AreLinked law.input.now law.node.now }
     requires fit { All (λ row. Fits law.input.now.schema row) input }
-    ensures output { IfOk result (λ rows. rows ≡ output_of law.entry.node.now.kind law.entry.node.now.schema (input ∷ [])) }
+    ensures output { IfOk result (λ rows. rows ≡ output_of law.entry.node.now.kind law.entry.node.now.schema
+        (input ∷ [])) }
     ensures fit { IfOk result (λ rows. All (λ row. Fits law.entry.node.now.schema row) rows) }
 {
     let mut lists = Vec::new(alloc);

@@ -40,7 +40,8 @@ Lacks cols values rows = All (λ t. part t cols ≢ values) rows
 
 -- where no input has the values in the columns `from`, no output has them in the columns `to`
 abbrev pub Drives : (Tuple → Bool) → (List Tuple → List Tuple) → List ℕ → List ℕ → Type 0
-Drives fits out from to = (values : Tuple) (rows : List Tuple) → AllFit fits rows → Lacks from values rows → Lacks to values (out rows)
+Drives fits out from to = (values : Tuple) (rows : List Tuple) → AllFit fits rows → Lacks from values rows
+    → Lacks to values (out rows)
 
 -- the tuples' values in the columns, in their order, with adjacent repeats as one
 abbrev pub succession : List ℕ → List Tuple → List Tuple

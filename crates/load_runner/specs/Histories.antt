@@ -13,7 +13,8 @@ pub record Standing : Type 0 where
 abbrev pub nothing : Standing
 nothing = record { rows = []; ended = false }
 
--- a load over a table that isn't ended adds the first blocks of a cut of the rows that are missing, and ends it only behind all of them
+-- a load over a table that isn't ended adds the first blocks of a cut of the rows that are missing, and ends it only
+-- behind all of them
 pub record Adds (whole : List (List Value)) (before after : Standing) : Type 0 where
   pub unended : before.ended ≡ false
   pub batch : ℕ
@@ -42,4 +43,5 @@ IsHistory whole standings = IsHistoryFrom whole nothing standings
 -- each stands for the meaning, begins with the rows of the one before it, and has all rows where it is ended
 abbrev pub AllStandFrom : List (List Value) → Standing → List Standing → Type 0
 AllStandFrom whole before [] = ⊤
-AllStandFrom whole before (after ∷ others) = Stands whole after.rows after.ended × Begins before.rows after.rows × AllStandFrom whole after others
+AllStandFrom whole before (after ∷ others) = Stands whole after.rows after.ended × Begins before.rows after.rows
+    × AllStandFrom whole after others

@@ -25,10 +25,13 @@ use Rattle.load_runner.specs.Reports.{report_of, ended_report}
 
 -- where the next block's gate is, behind these blocks: or where it will be, once the table is made
 abbrev pub IsNextGate : List ℕ → List ℕ → List Stored → ℕ → Type 0
-IsNextGate file text olds gate = HoldsUpTo gate file text olds false ⊎ (IsNotMade file × (olds ≡ []) × (gate ≡ 16 + length text))
+IsNextGate file text olds gate = HoldsUpTo gate file text olds false
+    ⊎ (IsNotMade file × (olds ≡ []) × (gate ≡ 16 + length text))
 
--- the load is complete: behind the old blocks stand all that were missing and the end, nothing is pending, and the report says how many
-pub record IsComplete (job : Job) (told : Option Files) (committed : List (List Value)) (olds : List Stored) (gate : ℕ) (now : DiskState) (report : Report) : Type 0 where
+-- the load is complete: behind the old blocks stand all that were missing and the end, nothing is pending, and the
+-- report says how many
+pub record IsComplete (job : Job) (told : Option Files) (committed : List (List Value)) (olds : List Stored) (gate : ℕ)
+    (now : DiskState) (report : Report) : Type 0 where
   pub whole : List (List Value)
   pub meaning : IsMeaning job.nodes told whole
   pub blocks : Holds now.file job.text (with_blocks olds (missing_blocks job.batch (length committed) whole)) true
@@ -39,18 +42,23 @@ pub record IsComplete (job : Job) (told : Option Files) (committed : List (List 
   pub is_root : last_of job.nodes ≡ Some root
   pub reported : report ≡ report_of root.id (length committed) (length whole)
 
--- the table is full: so many of the missing blocks have room, and stand behind the old ones, nothing is pending, and the next one has none
-pub record IsFull (job : Job) (told : Option Files) (committed : List (List Value)) (olds : List Stored) (gate : ℕ) (now : DiskState) : Type 0 where
+-- the table is full: so many of the missing blocks have room, and stand behind the old ones, nothing is pending, and
+-- the next one has none
+pub record IsFull (job : Job) (told : Option Files) (committed : List (List Value)) (olds : List Stored) (gate : ℕ)
+    (now : DiskState) : Type 0 where
   pub whole : List (List Value)
   pub meaning : IsMeaning job.nodes told whole
   pub count : ℕ
   pub full : IsFullBehind gate (missing_blocks job.batch (length committed) whole) count
-  pub blocks : Holds now.file job.text (with_blocks olds (take count (missing_blocks job.batch (length committed) whole))) false
-  pub rows : HoldsRows now.file job.text (columns_of job) (committed ++ together (take count (missing_blocks job.batch (length committed) whole))) false
+  pub blocks : Holds now.file job.text (with_blocks olds (take count
+      (missing_blocks job.batch (length committed) whole))) false
+  pub rows : HoldsRows now.file job.text (columns_of job) (committed
+      ++ together (take count (missing_blocks job.batch (length committed) whole))) false
   pub settled : IsSettled now
 
 -- the disk failed while the table was made, or while the missing blocks were added behind the old ones
-pub record StoppedAdding (job : Job) (told : Option Files) (committed : List (List Value)) (olds : List Stored) (disk now : DiskState) : Type 0 where
+pub record StoppedAdding (job : Job) (told : Option Files) (committed : List (List Value)) (olds : List Stored)
+    (disk now : DiskState) : Type 0 where
   pub whole : List (List Value)
   pub meaning : IsMeaning job.nodes told whole
   pub stopped : IsStopped disk.file job.text olds (missing_blocks job.batch (length committed) whole) now.may_leave
@@ -62,18 +70,24 @@ Leaves job told committed olds gate disk now (Err Memory) = Spares disk now
 Leaves job told committed olds gate disk now (Err (Fault fault.Depot)) = Spares disk now
 Leaves job told committed olds gate disk now (Err (Fault fault.NotBuilt)) = Spares disk now
 Leaves job told committed olds gate disk now (Err (Fault fault.Full)) = IsFull job told committed olds gate now
-Leaves job told committed olds gate disk now (Err (Fault fault.Disk)) = Spares disk now ⊎ StoppedAdding job told committed olds disk now
+Leaves job told committed olds gate disk now (Err (Fault fault.Disk)) = Spares disk now
+    ⊎ StoppedAdding job told committed olds disk now
 Leaves job told committed olds gate disk now (Err (Fault (fault.NotATable place))) = ⊥
 Leaves job told committed olds gate disk now (Err (Fault fault.WorkflowDiffers)) = ⊥
 
--- each image of each moment is one from before, or holds the old blocks and behind them the first of those that are missing
-pub record AddsMissing (job : Job) (told : Option Files) (committed : List (List Value)) (olds : List Stored) (disk now : DiskState) : Type 0 where
+-- each image of each moment is one from before, or holds the old blocks and behind them the first of those that are
+-- missing
+pub record AddsMissing (job : Job) (told : Option Files) (committed : List (List Value)) (olds : List Stored)
+    (disk now : DiskState) : Type 0 where
   pub whole : List (List Value)
   pub meaning : IsMeaning job.nodes told whole
-  pub each : AtEachMoment disk now (λ image. disk.may_leave image ⊎ IsGrown disk.file job.text (columns_of job) olds (missing_blocks job.batch (length committed) whole) image)
+  pub each : AtEachMoment disk now (λ image. disk.may_leave image
+      ⊎ IsGrown disk.file job.text (columns_of job) olds (missing_blocks job.batch (length committed) whole) image)
 
--- a load to a table that isn't ended, whose blocks decode to the committed rows: only blocks that are missing are added, in their order
-pub record AddsTo (job : Job) (told : Option Files) (committed : List (List Value)) (disk now : DiskState) (answer : Answer) : Type 0 where
+-- a load to a table that isn't ended, whose blocks decode to the committed rows: only blocks that are missing are
+-- added, in their order
+pub record AddsTo (job : Job) (told : Option Files) (committed : List (List Value)) (disk now : DiskState)
+    (answer : Answer) : Type 0 where
   pub olds : List Stored
   pub decodes : table_rows (columns_of job) (16 + length job.text) olds ≡ Ok committed
   pub gate : ℕ
@@ -105,20 +119,22 @@ complete_before committed = Ok (ended_report (length committed))
 
 -- what a load does, by what the file is found to be
 abbrev pub Does : Job → DepotState → DepotState → DiskState → DiskState → Answer → State → Type 0
-Does job depot still disk now answer (rows committed true) = Stays (complete_before committed) depot still disk now answer
+Does job depot still disk now answer (rows committed true) = Stays
+    (complete_before committed) depot still disk now answer
 Does job depot still disk now answer (rows committed false) = AddsTo job depot.files committed disk now answer
 Does job depot still disk now answer (wrong place) = Stays (refused_at place) depot still disk now answer
 Does job depot still disk now answer other = Stays refused_other depot still disk now answer
 
 -- The promise.
 
--- what each answer rests on, be the disk honest or not: a device is blamed only where it failed in this call, and a source only where the
--- flow has no meaning over the files
+-- what each answer rests on, be the disk honest or not: a device is blamed only where it failed in this call, and a
+-- source only where the flow has no meaning over the files
 abbrev pub RestsOn : Job → DepotState → DepotState → DiskState → DiskState → Answer → Type 0
 RestsOn job depot still disk now (Ok report) = ⊤
 RestsOn job depot still disk now (Err Memory) = ⊤
 RestsOn job depot still disk now (Err (Fault fault.Depot)) = Rose depot.faults still.faults
-RestsOn job depot still disk now (Err (Fault fault.NotBuilt)) = (files : Files) → depot.files ≡ Some files → whole_in job.nodes files ≡ None
+RestsOn job depot still disk now (Err (Fault fault.NotBuilt)) = (files : Files) → depot.files ≡ Some files
+    → whole_in job.nodes files ≡ None
 RestsOn job depot still disk now (Err (Fault fault.Full)) = ⊤
 RestsOn job depot still disk now (Err (Fault fault.Disk)) = Rose disk.faults now.faults
 RestsOn job depot still disk now (Err (Fault (fault.NotATable place))) = ⊤
@@ -132,13 +148,18 @@ pub record Loads (job : Job) (depot still : DepotState) (disk now : DiskState) (
   -- no table is lost, whose ever it is
   pub loses_nothing : LosesNothing disk now
   -- rows of this flow's table that every image holds first before the load, every image of every moment holds first
-  pub kept : (acknowledged : List (List Value)) → Each disk.may_leave (HoldsFirst job.text (columns_of job) acknowledged)
+  pub kept : (acknowledged : List (List Value)) → Each disk.may_leave
+      (HoldsFirst job.text (columns_of job) acknowledged)
       → AtEachMoment disk now (HoldsFirst job.text (columns_of job) acknowledged)
   -- and where they stood for the meaning of the flow, those that a crash leaves stand for it
-  pub safe : (files : Files) → depot.files ≡ Some files → (whole acknowledged : List (List Value)) → whole_in job.nodes files ≡ Some whole
-      → Each disk.may_leave (IsSafe job.text (columns_of job) whole acknowledged) → AtEachMoment disk now (IsSafe job.text (columns_of job) whole acknowledged)
+  pub safe : (files : Files) → depot.files ≡ Some files → (whole acknowledged : List (List Value))
+      → whole_in job.nodes files ≡ Some whole
+      → Each disk.may_leave (IsSafe job.text (columns_of job) whole acknowledged)
+      → AtEachMoment disk now (IsSafe job.text (columns_of job) whole acknowledged)
   -- what is committed in the load is not taken back
-  pub grows : IsTrue disk.honest → Each disk.may_leave (HoldsFirst job.text (columns_of job) []) → TableGrows job.text (columns_of job) disk now
+  pub grows : IsTrue disk.honest → Each disk.may_leave (HoldsFirst job.text (columns_of job) [])
+      → TableGrows job.text (columns_of job) disk now
   -- what it does
-  pub does : IsTrue disk.honest → (state : State) → IsFound disk.file job.text (columns_of job) state → Does job depot still disk now answer state
+  pub does : IsTrue disk.honest → (state : State) → IsFound disk.file job.text (columns_of job) state
+      → Does job depot still disk now answer state
   pub rests : RestsOn job depot still disk now answer

@@ -7,11 +7,19 @@ use Rattle.load_runner.specs.declared.report.Report.{Report}
 
 -- at the root's edge, where rows stood: as many as stood are dropped of the rows that come there, and the others pass
 abbrev pub skipped : NodeId → ℕ → ℕ → List EdgeCount
-skipped root before whole = if before == 0 then [] else record { edge = root; passed = whole - before; dropped = min before whole } ∷ []
+skipped root before whole = if before == 0 then [] else record {
+  edge = root;
+  passed = whole - before;
+  dropped = min before whole;
+} ∷ []
 
 -- how many rows stood before, how many were added, and what passed the root's edge
 abbrev pub report_of : NodeId → ℕ → ℕ → Report
-report_of root before whole = record { committed_before = before; added = whole - before; edges = skipped root before whole }
+report_of root before whole = record {
+  committed_before = before;
+  added = whole - before;
+  edges = skipped root before whole;
+}
 
 -- an ended table has all its rows
 abbrev pub ended_report : ℕ → Report

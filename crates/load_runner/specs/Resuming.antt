@@ -39,10 +39,12 @@ IsCaused depot disk fault.NotBuilt = ⊤
 IsCaused depot disk fault.Full = ⊤
 
 -- the table is ended, and all that was missing behind the rows that were found stands in it, as the report says
-pub record AllAdded (nodes : List Node) (told : Option Files) (text : List ℕ) (batch : ℕ) (found : Attached) (before now : List ℕ) (report : Report) : Type 0 where
+pub record AllAdded (nodes : List Node) (told : Option Files) (text : List ℕ) (batch : ℕ) (found : Attached)
+    (before now : List ℕ) (report : Report) : Type 0 where
   pub whole : List (List Value)
   pub meaning : IsMeaning nodes told whole
   pub of_columns : All (IsRowOf (root_columns nodes)) (drop (count_of found) whole)
-  pub holds : (olds : List Stored) → IsAt found before text olds → Holds now text (with_blocks olds (missing_blocks batch (count_of found) whole)) true
+  pub holds : (olds : List Stored) → IsAt found before text olds
+      → Holds now text (with_blocks olds (missing_blocks batch (count_of found) whole)) true
   pub room : AllHaveRoom (gate_of found text) (missing_blocks batch (count_of found) whole)
   pub reported : IfSome (last_of nodes) (λ root. report ≡ report_of root.id (count_of found) (length whole))

@@ -10,7 +10,8 @@ use Rattle.table_write.specs.Adds.{IsFront, StopsBetween}
 use Rattle.load_runner.specs.Standing.{Begins, Stands}
 
 -- under this text the image holds rows that begin with these and stand for this meaning, ended or not
-pub record IsSafe (text : List ℕ) (columns : List Column) (whole acknowledged : List (List Value)) (image : List ℕ) : Type 0 where
+pub record IsSafe (text : List ℕ) (columns : List Column) (whole acknowledged : List (List Value))
+    (image : List ℕ) : Type 0 where
   pub rows : List (List Value)
   pub ended : Bool
   pub holds : HoldsRows image text columns rows ended
@@ -32,10 +33,12 @@ pub record IsNotYet (file : List ℕ) (olds : List Stored) (image : List ℕ) : 
   pub none : olds ≡ []
   pub is : IsNotMade image
 
--- the image holds the blocks of the old file and behind them the first of these; or there was no table, and there is none yet
+-- the image holds the blocks of the old file and behind them the first of these; or there was no table, and there is
+-- none yet
 abbrev pub IsGrown : List ℕ → List ℕ → List Column → List Stored → List (List (List Value)) → List ℕ → Type 0
 IsGrown file text columns olds blocks image = IsFront text columns olds blocks image ⊎ IsNotYet file olds image
 
 -- it stopped while the table was being made, where there was none, or behind so many of these blocks
 abbrev pub IsStopped : List ℕ → List ℕ → List Stored → List (List (List Value)) → (List ℕ → Type 0) → Type 0
-IsStopped file text olds blocks images = (IsNotMade file × Each images (IsEmptyOrNotMade text)) ⊎ StopsBetween text olds blocks images
+IsStopped file text olds blocks images = (IsNotMade file × Each images (IsEmptyOrNotMade text))
+    ⊎ StopsBetween text olds blocks images

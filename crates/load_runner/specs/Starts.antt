@@ -24,11 +24,13 @@ abbrev pub stop_of_table : Stop TableFault → Stop LoadFault
 stop_of_table Memory = Memory
 stop_of_table (Fault f) = Fault (of_table f)
 
--- what was found of the image tells its rows: none where it isn't made, and else those of the blocks that the journal tells of
+-- what was found of the image tells its rows: none where it isn't made, and else those of the blocks that the journal
+-- tells of
 abbrev pub Starts : Attached → List ℕ → List ℕ → List Column → Type 0
 Starts NotMade image text columns = IsNotMade image
 Starts (Made journal) image text columns =
-    (told : TellsOf journal image text) × ((rows : List (List Value)) × (table_rows columns (16 + length text) told.blocks ≡ Ok rows))
+    (told : TellsOf journal image text) × ((rows : List (List Value))
+    × (table_rows columns (16 + length text) told.blocks ≡ Ok rows))
 
 -- the image has these blocks, behind which more may be added
 abbrev pub IsAt : Attached → List ℕ → List ℕ → List Stored → Type 0

@@ -25,14 +25,17 @@ pub fn begin<K: Disk>(
     text: &[u8],
     schema: &Schema,
 ) -> Result<Attached, Stop<LoadFault>>
-    ensures found { IfOk result (λ found. IsTrue (K.state disk.old).honest → Starts found (K.state disk.new).file text.now schema.now) }
+    ensures found { IfOk result (λ found. IsTrue (K.state disk.old).honest
+        → Starts found (K.state disk.new).file text.now schema.now) }
     ensures within { IfOk result (λ found. IsWithin found (K.state disk.new).size) }
     ensures sound { IfOk result IsSound }
     ensures settled { OnOk result (Syncs (K.state disk.old) (K.state disk.new)) }
 
-    ensures not_a_table { (place : ℕ) → result ≡ Err (stop.Fault (fault.NotATable place)) → IsTrue (K.state disk.old).honest
+    ensures not_a_table { (place : ℕ) → result ≡ Err (stop.Fault (fault.NotATable place))
+        → IsTrue (K.state disk.old).honest
         → IsFound (K.state disk.old).file text.now schema.now (wrong place) }
-    ensures differs { result ≡ Err (stop.Fault fault.WorkflowDiffers) → IsTrue (K.state disk.old).honest → IsFound (K.state disk.old).file text.now schema.now other }
+    ensures differs { result ≡ Err (stop.Fault fault.WorkflowDiffers) → IsTrue (K.state disk.old).honest
+        → IsFound (K.state disk.old).file text.now schema.now other }
     ensures causes { IfFault result (IsTableFault (Rose (K.state disk.old).faults (K.state disk.new).faults)) }
 
     ensures spares { Spares (K.state disk.old) (K.state disk.new) }
@@ -59,10 +62,12 @@ fn verify_rows<K: Disk>(
     schema: &Schema,
 ) -> Result<(), Stop<LoadFault>>
     requires place { journal.now.gate < (K.state disk.old).size }
-    ensures rows { OnOk result (IsTrue (K.state disk.old).honest → (text : List ℕ) → (table : TellsOf journal.now (K.state disk.old).file text)
+    ensures rows { OnOk result (IsTrue (K.state disk.old).honest → (text : List ℕ)
+        → (table : TellsOf journal.now (K.state disk.old).file text)
         → (rows : List (List Value)) × (table_rows schema.now (16 + length text) table.blocks ≡ Ok rows)) }
     ensures wrong { (place : ℕ) → result ≡ Err (stop.Fault (fault.NotATable place)) → IsTrue (K.state disk.old).honest
-        → (text : List ℕ) → TellsOf journal.now (K.state disk.old).file text → HasWrongRow place (K.state disk.old).file text schema.now }
+        → (text : List ℕ) → TellsOf journal.now (K.state disk.old).file text
+        → HasWrongRow place (K.state disk.old).file text schema.now }
     ensures causes { IfFault result (IsRowFault (Rose (K.state disk.old).faults (K.state disk.new).faults)) }
     ensures only_read { OnlyReads (K.state disk.old) (K.state disk.new) }
 {

@@ -39,14 +39,16 @@ pub fn finish<K: Disk>(
     requires sound { IsSound found }
     requires unended { is_ended found ≡ false }
     requires within { IsWithin found (K.state disk.old).size }
-    requires start { IsTrue (K.state disk.old).honest → (olds : List Stored) × IsAt found (K.state disk.old).file text.now olds }
+    requires start { IsTrue (K.state disk.old).honest → (olds : List Stored)
+        × IsAt found (K.state disk.old).file text.now olds }
     requires fit { All (λ row. Fits schema.now row) rows.now }
     requires numbers { AreNumbers schema.now }
     requires room { 9 * length schema.now ≤ writer.old }
     requires some { 1 ≤ batch }
     requires few { batch ≤ MAX_ROWS }
 
-    ensures done { OnOk result (IsTrue (K.state disk.old).honest → (olds : List Stored) → IsAt found (K.state disk.old).file text.now olds
+    ensures done { OnOk result (IsTrue (K.state disk.old).honest → (olds : List Stored)
+        → IsAt found (K.state disk.old).file text.now olds
         → Holds (K.state disk.new).file text.now (with_blocks olds (cut batch rows.now)) true) }
     ensures of_columns { OnOk result (All (IsRowOf schema.now) rows.now) }
     ensures settled { OnOk result (IsTrue (K.state disk.old).honest → IsSettled (K.state disk.new)) }
@@ -54,23 +56,27 @@ pub fn finish<K: Disk>(
 
     // Full comes exactly where the blocks behind so many have no room; those are committed.
     ensures all_fit { OnOk result (AllHaveRoom (gate_of found text.now) (cut batch rows.now)) }
-    ensures full { result ≡ Err (stop.Fault fault.Full) → (count : ℕ) × IsFullBehind (gate_of found text.now) (cut batch rows.now) count
+    ensures full { result ≡ Err (stop.Fault fault.Full) → (count : ℕ)
+        × IsFullBehind (gate_of found text.now) (cut batch rows.now) count
         × All (IsRowOf schema.now) (together (take count (cut batch rows.now)))
         × (IsTrue (K.state disk.old).honest → (olds : List Stored) → IsAt found (K.state disk.old).file text.now olds
         → Holds (K.state disk.new).file text.now (with_blocks olds (take count (cut batch rows.now))) false) }
-    ensures full_settled { result ≡ Err (stop.Fault fault.Full) → IsTrue (K.state disk.old).honest → IsSettled (K.state disk.old)
+    ensures full_settled { result ≡ Err (stop.Fault fault.Full) → IsTrue (K.state disk.old).honest
+        → IsSettled (K.state disk.old)
         → IsSettled (K.state disk.new) }
     ensures causes { IfFault result (IsWriteFault (Rose (K.state disk.old).faults (K.state disk.new).faults)) }
 
     // A crash at any moment of the call leaves the blocks from before, and the first of the new ones.
     ensures any_moment { IsTrue (K.state disk.old).honest → IsSettled (K.state disk.old)
         → (olds : List Stored) → IsAt found (K.state disk.old).file text.now olds
-        → Each (LeftBetween (K.state disk.old) (K.state disk.new)) (IsGrown (K.state disk.old).file text.now schema.now olds (cut batch rows.now)) }
+        → Each (LeftBetween (K.state disk.old) (K.state disk.new))
+        (IsGrown (K.state disk.old).file text.now schema.now olds (cut batch rows.now)) }
     ensures grows { IsTrue (K.state disk.old).honest → IsSettled (K.state disk.old)
         → (olds : List Stored) → IsAt found (K.state disk.old).file text.now olds
         → Grows text.now (K.state disk.old) (K.state disk.new) }
     // Where the disk failed, the table was being made, or each image holds so many of the new blocks, or one step more.
-    ensures stops { result ≡ Err (stop.Fault fault.Disk) → IsTrue (K.state disk.old).honest → IsSettled (K.state disk.old)
+    ensures stops { result ≡ Err (stop.Fault fault.Disk) → IsTrue (K.state disk.old).honest
+        → IsSettled (K.state disk.old)
         → (olds : List Stored) → IsAt found (K.state disk.old).file text.now olds
         → IsStopped (K.state disk.old).file text.now olds (cut batch rows.now) (K.state disk.new).may_leave }
     ensures elapses { Elapses (K.state disk.old) (K.state disk.new) }
@@ -102,25 +108,30 @@ fn append<K: Disk>(
     requires some { 1 ≤ batch }
     requires few { batch ≤ MAX_ROWS }
 
-    ensures done { OnOk result (IsTrue (K.state disk.old).honest → (text : List ℕ) (olds : List Stored) → HoldsUpTo journal.gate (K.state disk.old).file text olds false
+    ensures done { OnOk result (IsTrue (K.state disk.old).honest → (text : List ℕ) (olds : List Stored)
+        → HoldsUpTo journal.gate (K.state disk.old).file text olds false
         → Holds (K.state disk.new).file text (with_blocks olds (cut batch rows.now)) true) }
     ensures of_columns { OnOk result (All (IsRowOf schema.now) rows.now) }
     ensures settled { OnOk result (IsTrue (K.state disk.old).honest → IsSettled (K.state disk.new)) }
     ensures no_memory { result ≢ Err stop.Memory }
 
     ensures all_fit { OnOk result (AllHaveRoom journal.gate (cut batch rows.now)) }
-    ensures full { result ≡ Err (stop.Fault fault.Full) → (count : ℕ) × IsFullBehind journal.gate (cut batch rows.now) count
+    ensures full { result ≡ Err (stop.Fault fault.Full) → (count : ℕ)
+        × IsFullBehind journal.gate (cut batch rows.now) count
         × All (IsRowOf schema.now) (together (take count (cut batch rows.now)))
-        × (IsTrue (K.state disk.old).honest → (text : List ℕ) (olds : List Stored) → HoldsUpTo journal.gate (K.state disk.old).file text olds false
+        × (IsTrue (K.state disk.old).honest → (text : List ℕ) (olds : List Stored)
+        → HoldsUpTo journal.gate (K.state disk.old).file text olds false
         → Holds (K.state disk.new).file text (with_blocks olds (take count (cut batch rows.now))) false) }
-    ensures full_settled { result ≡ Err (stop.Fault fault.Full) → IsTrue (K.state disk.old).honest → IsSettled (K.state disk.old)
+    ensures full_settled { result ≡ Err (stop.Fault fault.Full) → IsTrue (K.state disk.old).honest
+        → IsSettled (K.state disk.old)
         → IsSettled (K.state disk.new) }
     ensures causes { IfFault result (IsWriteFault (Rose (K.state disk.old).faults (K.state disk.new).faults)) }
 
     ensures any_moment { IsTrue (K.state disk.old).honest → IsSettled (K.state disk.old)
         → (text : List ℕ) (olds : List Stored) → HoldsUpTo journal.gate (K.state disk.old).file text olds false
         → LeavesFronts text schema.now olds (cut batch rows.now) (K.state disk.old) (K.state disk.new) }
-    ensures stops { result ≡ Err (stop.Fault fault.Disk) → IsTrue (K.state disk.old).honest → IsSettled (K.state disk.old)
+    ensures stops { result ≡ Err (stop.Fault fault.Disk) → IsTrue (K.state disk.old).honest
+        → IsSettled (K.state disk.old)
         → (text : List ℕ) (olds : List Stored) → HoldsUpTo journal.gate (K.state disk.old).file text olds false
         → StopsBetween text olds (cut batch rows.now) (K.state disk.new).may_leave }
     ensures elapses { Elapses (K.state disk.old) (K.state disk.new) }
@@ -137,7 +148,8 @@ fn make_table<K: Disk>(alloc: Global, disk: &mut K, text: &[u8]) -> Result<Journ
     requires not_made { IsTrue (K.state disk.old).honest → IsNotMade (K.state disk.old).file }
 
     ensures journal { IfOk result (λ journal. journal ≡ new_journal text.now) }
-    ensures done { IfOk result (λ journal. IsTrue (K.state disk.old).honest → HoldsUpTo journal.gate (K.state disk.new).file text.now [] false) }
+    ensures done { IfOk result (λ journal. IsTrue (K.state disk.old).honest
+        → HoldsUpTo journal.gate (K.state disk.new).file text.now [] false) }
     ensures size { IfOk result (λ journal. journal.gate < (K.state disk.new).size) }
     ensures settled { OnOk result (IsTrue (K.state disk.old).honest → IsSettled (K.state disk.new)) }
     ensures memory { IsErrOf result stop.Memory → disk.new ≡ disk.old }

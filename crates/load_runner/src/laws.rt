@@ -6,5 +6,6 @@ ghost use Rattle.load_runner.specs.Histories.{Standing, nothing, IsHistory, AllS
 /// After any number of loads, each stopped at any moment or not: the table's rows stand for the meaning, no load
 /// takes rows back, and an ended table holds all of them. It does nothing: its contract is the law.
 pub fn any_loads()
-    ensures { (whole : List (List Value)) (standings : List Standing) → IsHistory whole standings → AllStandFrom whole nothing standings }
+    ensures { (whole : List (List Value)) (standings : List Standing) → IsHistory whole standings
+        → AllStandFrom whole nothing standings }
 {}

@@ -45,17 +45,21 @@ pub fn resume<D: Depot, K: Disk>(
     requires sound { IsSound found }
     requires unended { is_ended found ≡ false }
     requires within { IsWithin found (K.state disk.old).size }
-    requires start { IsTrue (K.state disk.old).honest → (olds : List Stored) × IsAt found (K.state disk.old).file text.now olds }
+    requires start { IsTrue (K.state disk.old).honest → (olds : List Stored)
+        × IsAt found (K.state disk.old).file text.now olds }
 
     ensures done { IfOk result (λ report. IsTrue (K.state disk.old).honest
-        → AllAdded flow.now (D.state depot.old).files text.now batch found (K.state disk.old).file (K.state disk.new).file report) }
+        → AllAdded flow.now (D.state depot.old).files text.now batch found (K.state disk.old).file
+        (K.state disk.new).file report) }
     ensures none { result ≡ Err (stop.Fault fault.NotBuilt) → (files : Files) → (D.state depot.old).files ≡ Some files
         → whole_in flow.now files ≡ None }
-    ensures full { result ≡ Err (stop.Fault fault.Full) → (whole : List (List Value)) × IsMeaning flow.now (D.state depot.old).files whole
+    ensures full { result ≡ Err (stop.Fault fault.Full) → (whole : List (List Value))
+        × IsMeaning flow.now (D.state depot.old).files whole
         × ((count : ℕ) × IsFullBehind (gate_of found text.now) (missing_blocks batch (count_of found) whole) count
         × All (IsRowOf (root_columns flow.now)) (together (take count (missing_blocks batch (count_of found) whole)))
         × (IsTrue (K.state disk.old).honest → (olds : List Stored) → IsAt found (K.state disk.old).file text.now olds
-        → Holds (K.state disk.new).file text.now (with_blocks olds (take count (missing_blocks batch (count_of found) whole))) false)) }
+        → Holds (K.state disk.new).file text.now (with_blocks olds
+        (take count (missing_blocks batch (count_of found) whole))) false)) }
     ensures causes { IfFault result (IsCaused (Rose (D.state depot.old).faults (D.state depot.new).faults)
         (Rose (K.state disk.old).faults (K.state disk.new).faults)) }
     ensures table { (place : ℕ) → result ≢ Err (stop.Fault (fault.NotATable place)) }
@@ -63,21 +67,26 @@ pub fn resume<D: Depot, K: Disk>(
 
     ensures untouched { IsUnwritten result → disk.new ≡ disk.old }
     ensures settled { OnOk result (IsTrue (K.state disk.old).honest → IsSettled (K.state disk.new)) }
-    ensures full_settled { result ≡ Err (stop.Fault fault.Full) → IsTrue (K.state disk.old).honest → IsSettled (K.state disk.old)
+    ensures full_settled { result ≡ Err (stop.Fault fault.Full) → IsTrue (K.state disk.old).honest
+        → IsSettled (K.state disk.old)
         → IsSettled (K.state disk.new) }
     // A crash at any moment of the call leaves the blocks from before, and the first of those that are missing.
     ensures any_moment { IsTrue (K.state disk.old).honest → IsSettled (K.state disk.old)
         → (olds : List Stored) → IsAt found (K.state disk.old).file text.now olds
-        → OnlyReads (K.state disk.old) (K.state disk.new) ⊎ ((whole : List (List Value)) × IsMeaning flow.now (D.state depot.old).files whole
+        → OnlyReads (K.state disk.old) (K.state disk.new) ⊎ ((whole : List (List Value))
+        × IsMeaning flow.now (D.state depot.old).files whole
         × Each (LeftBetween (K.state disk.old) (K.state disk.new))
-        (IsGrown (K.state disk.old).file text.now (root_columns flow.now) olds (missing_blocks batch (count_of found) whole))) }
+        (IsGrown (K.state disk.old).file text.now (root_columns flow.now) olds
+        (missing_blocks batch (count_of found) whole))) }
     ensures grows { IsTrue (K.state disk.old).honest → IsSettled (K.state disk.old)
         → (olds : List Stored) → IsAt found (K.state disk.old).file text.now olds
         → OnlyReads (K.state disk.old) (K.state disk.new) ⊎ Grows text.now (K.state disk.old) (K.state disk.new) }
-    ensures stops { result ≡ Err (stop.Fault fault.Disk) → IsTrue (K.state disk.old).honest → IsSettled (K.state disk.old)
+    ensures stops { result ≡ Err (stop.Fault fault.Disk) → IsTrue (K.state disk.old).honest
+        → IsSettled (K.state disk.old)
         → (olds : List Stored) → IsAt found (K.state disk.old).file text.now olds
         → (whole : List (List Value)) × IsMeaning flow.now (D.state depot.old).files whole
-        × IsStopped (K.state disk.old).file text.now olds (missing_blocks batch (count_of found) whole) (K.state disk.new).may_leave }
+        × IsStopped (K.state disk.old).file text.now olds (missing_blocks batch (count_of found) whole)
+        (K.state disk.new).may_leave }
     ensures consults { Consults (D.state depot.old) (D.state depot.new) }
     ensures elapses { Elapses (K.state disk.old) (K.state disk.new) }
 {

@@ -28,8 +28,10 @@ pub fn whole_rows<D: Depot>(
     flow: &Flow,
     depot: &mut D,
 ) -> Result<Tuples, Stop<LoadFault>>
-    ensures whole { IfOk result (λ rows. (files : Files) → (D.state depot.old).files ≡ Some files → whole_in flow.now files ≡ Some rows) }
-    ensures none { result ≡ Err (stop.Fault fault.NotBuilt) → (files : Files) → (D.state depot.old).files ≡ Some files → whole_in flow.now files ≡ None }
+    ensures whole { IfOk result (λ rows. (files : Files) → (D.state depot.old).files ≡ Some files
+        → whole_in flow.now files ≡ Some rows) }
+    ensures none { result ≡ Err (stop.Fault fault.NotBuilt) → (files : Files) → (D.state depot.old).files ≡ Some files
+        → whole_in flow.now files ≡ None }
     ensures fit { IfOk result (λ rows. IfSome (last_of flow.now) (λ root. All (λ row. Fits root.schema row) rows)) }
     ensures causes { IfFault result (IsSourceFault (Rose (D.state depot.old).faults (D.state depot.new).faults)) }
     ensures consults { Consults (D.state depot.old) (D.state depot.new) }
@@ -49,9 +51,12 @@ fn source_rows<D: Depot>(
     flow: &Flow,
     depot: &mut D,
 ) -> Result<Option<Tuples>, Stop<LoadFault>>
-    ensures content { IfOk result (λ rows. (files : Files) → (D.state depot.old).files ≡ Some files → source_in flow.now files ≡ rows) }
-    ensures fit { IfOk result (λ o. IfSome o (λ rows. IfSome (slice_get flow.now 0) (λ first. All (λ row. Fits first.schema row) rows))) }
-    ensures causes { IfFault result (λ f. (f ≡ fault.Depot) × Rose (D.state depot.old).faults (D.state depot.new).faults) }
+    ensures content { IfOk result (λ rows. (files : Files) → (D.state depot.old).files ≡ Some files
+        → source_in flow.now files ≡ rows) }
+    ensures fit { IfOk result (λ o. IfSome o (λ rows. IfSome (slice_get flow.now 0)
+        (λ first. All (λ row. Fits first.schema row) rows))) }
+    ensures causes { IfFault result (λ f. (f ≡ fault.Depot) × Rose (D.state depot.old).faults
+        (D.state depot.new).faults) }
     ensures consults { Consults (D.state depot.old) (D.state depot.new) }
 {
     let first = &flow.nodes()[0];
@@ -72,7 +77,8 @@ fn read_rows<D: Depot>(
     ensures content { IfOk result (λ rows. (files : Files) → (D.state depot.old).files ≡ Some files
         → content_in schema.now (found_in MAX_SOURCE (file_at files file.now)) ≡ rows) }
     ensures fit { IfOk result (λ o. IfSome o (λ rows. All (λ row. Fits schema.now row) rows)) }
-    ensures causes { IfFault result (λ f. (f ≡ fault.Depot) × Rose (D.state depot.old).faults (D.state depot.new).faults) }
+    ensures causes { IfFault result (λ f. (f ≡ fault.Depot) × Rose (D.state depot.old).faults
+        (D.state depot.new).faults) }
     ensures consults { Consults (D.state depot.old) (D.state depot.new) }
 {
     match read_whole(alloc, depot, file, MAX_SOURCE) {

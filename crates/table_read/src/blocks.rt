@@ -49,7 +49,8 @@ fn read<K: Disk>(disk: &mut K, at: u64, into: &mut [u8]) -> Result<(), TableFaul
 fn read_head<K: Disk>(disk: &mut K, gate: u64, last: u64) -> Result<BlockHead, TableFault>
     requires place { gate ≤ last }
     requires size { last ≤ (K.state disk.old).size }
-    ensures head { IsTrue (K.state disk.old).honest → (block : Stored) → HasBlock (K.state disk.old).file gate last block → HeadTells result block }
+    ensures head { IsTrue (K.state disk.old).honest → (block : Stored)
+        → HasBlock (K.state disk.old).file gate last block → HeadTells result block }
     ensures within { IfOk result (λ head. gate + 10 + head.len ≤ last) }
     ensures only_read { OnlyReads (K.state disk.old) (K.state disk.new) }
     ensures cause { IfErr result (IsCaused (K.state disk.old).faults (K.state disk.new).faults) }
@@ -80,9 +81,11 @@ pub fn verify_block<K: Disk>(
     requires place { gate ≤ last }
     requires size { last ≤ (K.state disk.old).size }
     requires room { last < 2 ^ 48 }
-    ensures rows { IsTrue (K.state disk.old).honest → (block : Stored) → HasBlock (K.state disk.old).file gate last block
+    ensures rows { IsTrue (K.state disk.old).honest → (block : Stored)
+        → HasBlock (K.state disk.old).file gate last block
         → Verifies result (wrong_place (block_rows schema.now gate block)) }
-    ensures next { IsTrue (K.state disk.old).honest → (block : Stored) → HasBlock (K.state disk.old).file gate last block
+    ensures next { IsTrue (K.state disk.old).honest → (block : Stored)
+        → HasBlock (K.state disk.old).file gate last block
         → IfOk result (λ next. next ≡ next_gate gate block) }
     ensures onward { IfOk result (λ next. gate < next) }
     ensures within { IfOk result (λ next. next ≤ last) }

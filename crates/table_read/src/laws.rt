@@ -13,7 +13,8 @@ use row_codec::codec_laws;
 pub fn rows_laws()
     // What is read from the blocks are the rows that they store.
     ensures reads_stored { (columns : List Column) (gate : ℕ) (blocks : List Stored) (rows : List (List Value)) →
-        All (λ block. AreBytes block.bytes) blocks → table_rows columns gate blocks ≡ Ok rows → StoreAll columns blocks rows }
+        All (λ block. AreBytes block.bytes) blocks → table_rows columns gate blocks ≡ Ok rows
+        → StoreAll columns blocks rows }
 
     // The rows that the blocks store are read from them, wherever they stand.
     ensures stored_is_read { (columns : List Column) (gate : ℕ) (blocks : List Stored) (rows : List (List Value)) →

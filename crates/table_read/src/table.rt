@@ -29,7 +29,8 @@ pub fn verify<K: Disk>(
     requires place { journal.now.gate < (K.state disk.old).size }
 
     // Of the table that the journal tells of.
-    ensures rows { IsTrue (K.state disk.old).honest → (text : List ℕ) → (table : TellsOf journal.now (K.state disk.old).file text)
+    ensures rows { IsTrue (K.state disk.old).honest → (text : List ℕ)
+        → (table : TellsOf journal.now (K.state disk.old).file text)
         → Verifies result (wrong_place (table_rows schema.now journal.now.first table.blocks)) }
     ensures cause { IfFault result (IsCaused (K.state disk.old).faults (K.state disk.new).faults) }
     ensures only_read { OnlyReads (K.state disk.old) (K.state disk.new) }

@@ -16,14 +16,17 @@ use table_read::rows_laws;
 /// Of any rows there is exactly one cut. It does nothing: its contract is the laws.
 pub fn cut_laws()
     ensures is_cut { (batch : ℕ) (rows : List (List Value)) → 1 ≤ batch → IsCut batch rows (cut batch rows) }
-    ensures only { (batch : ℕ) (rows : List (List Value)) (blocks : List (List (List Value))) → 1 ≤ batch → IsCut batch rows blocks → blocks ≡ cut batch rows }
+    ensures only { (batch : ℕ) (rows : List (List Value)) (blocks : List (List (List Value))) → 1 ≤ batch
+        → IsCut batch rows blocks → blocks ≡ cut batch rows }
 {}
 
 /// Where the old blocks have rows, a table with these new ones behind them holds the rows of both.
 /// It does nothing: its contract is the law.
 pub fn blocks_laws()
-    ensures { (image text : List ℕ) (columns : List Column) (olds : List Stored) (blocks : List (List (List Value))) (rows : List (List Value)) (ended : Bool) →
-        table_rows columns (16 + length text) olds ≡ Ok rows → Holds image text (with_blocks olds blocks) ended → All (IsRowOf columns) (together blocks) →
+    ensures { (image text : List ℕ) (columns : List Column) (olds : List Stored) (blocks : List (List (List Value)))
+        (rows : List (List Value)) (ended : Bool) →
+        table_rows columns (16 + length text) olds ≡ Ok rows → Holds image text (with_blocks olds blocks) ended
+        → All (IsRowOf columns) (together blocks) →
         HoldsRows image text columns (rows ++ together blocks) ended }
 {
     rows_laws();
@@ -32,8 +35,10 @@ pub fn blocks_laws()
 /// An image that has still what an old one has holds its first rows, where it holds rows at all, and
 /// is ended where the old one is. It does nothing: its contract is the laws.
 pub fn still_laws()
-    ensures first_rows { (text : List ℕ) (old : List ℕ) (image : List ℕ) (columns : List Column) (rows : List (List Value)) →
-        HasStill text old image → HoldsFirst text columns rows old → HoldsFirst text columns [] image → HoldsFirst text columns rows image }
+    ensures first_rows { (text : List ℕ) (old : List ℕ) (image : List ℕ) (columns : List Column)
+        (rows : List (List Value)) →
+        HasStill text old image → HoldsFirst text columns rows old → HoldsFirst text columns [] image
+        → HoldsFirst text columns rows image }
     ensures ended { (text : List ℕ) (old : List ℕ) (image : List ℕ) (columns : List Column) →
         HasStill text old image → HoldsEnded text columns old → HoldsEnded text columns image }
 {

@@ -139,7 +139,8 @@ impl Writer {
         requires some { 1 ≤ batch }
         requires few { batch ≤ MAX_ROWS }
 
-        ensures added { OnOk result (HasAdded schema.now (cut batch rows.now) journal.old journal.new (K.state disk.old) (K.state disk.new)) }
+        ensures added { OnOk result (HasAdded schema.now (cut batch rows.now) journal.old journal.new (K.state disk.old)
+            (K.state disk.new)) }
         ensures any_moment { IsTrue (K.state disk.old).honest → IsSettled (K.state disk.old)
             → (text : List ℕ) (olds : List Stored) → HoldsUpTo journal.old.gate (K.state disk.old).file text olds false
             → LeavesFronts text schema.now olds (cut batch rows.now) (K.state disk.old) (K.state disk.new) }
@@ -148,7 +149,8 @@ impl Writer {
             → StopsBetween text olds (cut batch rows.now) (K.state disk.new).may_leave }
         ensures elapses { Elapses (K.state disk.old) (K.state disk.new) }
 
-        ensures each_fits { OnOk result ((count : ℕ) → count < length (cut batch rows.now) → HasRoom journal.old.gate (cut batch rows.now) count) }
+        ensures each_fits { OnOk result ((count : ℕ) → count < length (cut batch rows.now)
+            → HasRoom journal.old.gate (cut batch rows.now) count) }
         ensures full { IsErrOf result fault.Full
             → IsFilled schema.now (cut batch rows.now) journal.old journal.new (K.state disk.old) (K.state disk.new) }
 
@@ -184,7 +186,8 @@ fn commit_block<K: Disk>(
     ensures settled { OnOk result (IsTrue (K.state disk.old).honest → IsSettled (K.state disk.new)) }
 
     ensures any_moment { IsTrue (K.state disk.old).honest → IsSettled (K.state disk.old)
-        → LeavesWhole journal.old.gate block.now (K.state disk.old).file (LeftBetween (K.state disk.old) (K.state disk.new)) }
+        → LeavesWhole journal.old.gate block.now (K.state disk.old).file
+        (LeftBetween (K.state disk.old) (K.state disk.new)) }
     ensures grows { IsTrue (K.state disk.old).honest → IsSettled (K.state disk.old)
         → (text : List ℕ) (blocks : List Stored) → HoldsUpTo journal.old.gate (K.state disk.old).file text blocks false
         → Grows text (K.state disk.old) (K.state disk.new) }

@@ -20,4 +20,5 @@ answer_of (Err reason) = Some reason
 -- the notes gained the line of the reason, or a front of it where they failed; nothing where there is no reason
 abbrev pub Notes : Option Reason → SinkState → SinkState → Type 0
 Notes None notes now = now ≡ notes
-Notes (Some reason) notes now = Gains (refusal_line reason) notes now ⊎ (GainsFront (refusal_line reason) notes now × Rose notes.faults now.faults)
+Notes (Some reason) notes now = Gains (refusal_line reason) notes now
+    ⊎ (GainsFront (refusal_line reason) notes now × Rose notes.faults now.faults)

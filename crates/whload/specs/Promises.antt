@@ -70,7 +70,8 @@ pub record Runs (command : Asked) (old new : Devices) (answer : Option Reason) :
   -- the depot once the flow was read
   pub found : DepotState
   pub consults : Consults old.depot found
-  pub served : (files : Files) → old.depot.files ≡ Some files → found.served ≤ old.depot.served + size_of (file_at files (codes "flow.toml"))
+  pub served : (files : Files) → old.depot.files ≡ Some files
+      → found.served ≤ old.depot.served + size_of (file_at files (codes "flow.toml"))
   pub asked : Result Job Reason
   pub is_asked : IsAsked command old.depot asked
   pub does : Answers asked (record old { depot = found }) new answer
@@ -78,7 +79,8 @@ pub record Runs (command : Asked) (old new : Devices) (answer : Option Reason) :
 -- the flow wasn't read, since no memory was found or the depot failed, and nothing was touched
 pub record NotBegun (old new : Devices) (answer : Option Reason) : Type 0 where
   pub consults : Consults old.depot new.depot
-  pub served : (files : Files) → old.depot.files ≡ Some files → new.depot.served ≤ old.depot.served + size_of (file_at files (codes "flow.toml"))
+  pub served : (files : Files) → old.depot.files ≡ Some files
+      → new.depot.served ≤ old.depot.served + size_of (file_at files (codes "flow.toml"))
   pub untouched : Untouched (record old { depot = new.depot }) new
   pub outside : (answer ≡ Some why.Memory) ⊎ ((answer ≡ Some why.Depot) × Rose old.depot.faults new.depot.faults)
 

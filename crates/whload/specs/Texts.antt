@@ -25,11 +25,13 @@ name_of (node ∷ nodes) id = if node.id.0 == id.0 then node.name else name_of n
 -- what passed the filter on an edge, and what was dropped there
 abbrev pub edge_line : List Node → EdgeCount → List ℕ
 edge_line nodes edge =
-    codes "edge " ++ (name_of nodes edge.edge ++ (codes " passed " ++ (decimal edge.passed ++ (codes " dropped " ++ (decimal edge.dropped ++ codes "\n")))))
+    codes "edge " ++ (name_of nodes edge.edge ++ (codes " passed "
+    ++ (decimal edge.passed ++ (codes " dropped " ++ (decimal edge.dropped ++ codes "\n")))))
 
 -- how many rows stood before, and how many a load added
 abbrev pub totals_text : Report → List ℕ
-totals_text report = codes "complete\nbefore " ++ (decimal report.committed_before ++ (codes "\nadded " ++ (decimal report.added ++ codes "\n")))
+totals_text report = codes "complete\nbefore " ++ (decimal report.committed_before
+    ++ (codes "\nadded " ++ (decimal report.added ++ codes "\n")))
 
 -- the report of a load that is complete, and what its filters did
 abbrev pub report_text : List Node → Report → List ℕ
@@ -41,7 +43,8 @@ spaced first second = first ++ (codes " " ++ second)
 
 -- a place in `flow.toml`: the section, which of them, the key, and which item
 abbrev pub place_text : Place → List ℕ
-place_text place = spaced (spaced (section_text place.section) (decimal place.index)) (spaced place.key (decimal place.item))
+place_text place = spaced (spaced (section_text place.section) (decimal place.index))
+    (spaced place.key (decimal place.item))
 
 -- a place, and what is wrong there
 abbrev pub shape_text : Place → Lack → List ℕ
@@ -62,7 +65,8 @@ cause_text (cause.DoubleColumn column) = codes "column " ++ (column ++ codes " c
 
 -- why a command wasn't done, in words
 abbrev pub reason_text : Reason → List ℕ
-reason_text why.Usage = codes "usage: whload load DIR [--batch N], explain DIR, check DIR, dump DIR, pack DIR SOURCE, drill N"
+reason_text why.Usage =
+    codes "usage: whload load DIR [--batch N], explain DIR, check DIR, dump DIR, pack DIR SOURCE, drill N"
 reason_text why.FlowMissing = codes "flow.toml is missing"
 reason_text (why.FlowTooLong size) = codes "flow.toml has " ++ decimal size ++ codes " bytes"
 reason_text (why.Flow fault) = fault_text fault

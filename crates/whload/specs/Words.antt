@@ -23,7 +23,8 @@ default_batch command = if bytes_eq command (codes "load") then Some 1000 else N
 
 -- of the command and an option
 abbrev pub given_batch : List ℕ → List ℕ → List ℕ → Option ℕ
-given_batch command option number = if bytes_eq command (codes "load") && bytes_eq option (codes "--batch") then batch_number number else None
+given_batch command option number = if bytes_eq command (codes "load")
+    && bytes_eq option (codes "--batch") then batch_number number else None
 
 -- how many rows a block may have, where the words are `load DIR` or `load DIR --batch N`, for a folder of any name
 abbrev pub batch_in : List (List ℕ) → Option ℕ

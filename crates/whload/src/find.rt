@@ -25,7 +25,8 @@ pub struct Found {
 
 /// The flow of the folder, or why it is refused. Nothing is written.
 pub fn find<D: Depot>(alloc: Global, depot: &mut D) -> Result<Found, Reason>
-    ensures tells { (files : Files) → (D.state depot.old).files ≡ Some files → TellsView flow_text_of result (flow_of_files files) }
+    ensures tells { (files : Files) → (D.state depot.old).files ≡ Some files
+        → TellsView flow_text_of result (flow_of_files files) }
     ensures causes { IsAsked (Rose (D.state depot.old).faults (D.state depot.new).faults) result }
     ensures consults { Consults (D.state depot.old) (D.state depot.new) }
     ensures served { (files : Files) → (D.state depot.old).files ≡ Some files

@@ -137,7 +137,8 @@ fn fault_line(alloc: Global, fault: &FlowFault) -> Result<Line, AllocError>
 }
 
 fn schema_line(alloc: Global, name: &Text, cause: &SchemaCause) -> Result<String, AllocError>
-    ensures { IfOk result (λ text. string_bytes text ≡ codes "whload: " ++ (name.now ++ (codes ": " ++ cause_text cause.now)) ++ codes "\n") }
+    ensures { IfOk result (λ text. string_bytes text
+        ≡ codes "whload: " ++ (name.now ++ (codes ": " ++ cause_text cause.now)) ++ codes "\n") }
 {
     let text = node_text(alloc, name, cause)?;
     format!(in alloc; "whload: {text}\n")
