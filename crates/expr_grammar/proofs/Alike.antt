@@ -24,7 +24,7 @@ reduced_level-is : (fs : List Frame) (least l : ℕ) (x : Expr) → (reduce fs l
 reduced_level-is [] least l x = refl
 reduced_level-is (g ∷ gs) least l x =
     elim (nat_le least (rank g)) as (λ b. (cond b (reduce gs least (rank g) (made g x)) (record { level = l; expr = x; frames = g ∷ gs })).level
-      ≡ cond b (reduced_level gs least (rank g)) l)
+    ≡ cond b (reduced_level gs least (rank g)) l)
     [ true ↦ reduced_level-is gs least (rank g) (made g x) | false ↦ refl ]
 
 some_cond : (b : Bool) (s : State) → is_some (cond b (Some s) None) ≡ b
@@ -212,7 +212,7 @@ begins_alike o fs w by =
     (ap (λ b. begins_text w && b) (allowed_is o fs kind.Text w by))
     (ap (λ b. (is_word w && nat_le (length w) 40) && b) (allowed_is o fs kind.Name w by))
     (any_same (λ k. is_front w (spelling k) && is_some (takes_in o fs k w)) (λ k. is_front w (spelling k) && allows o fs k) fixed
-      (λ k. ap (λ b. is_front w (spelling k) && b) (allowed_is o fs k w by)))
+    (λ k. ap (λ b. is_front w (spelling k) && b) (allowed_is o fs k w by)))
 
 pub begins_is : (o : Mode) (fs : List Frame) (w : List ℕ) → begins_if o fs w ≡ begins (at_mode o fs) w
 unfolding begins

@@ -206,12 +206,13 @@ point_begins s t c cs n large h goes =
     let digits = and_parts (is_digit c) _ n in
     let mode = operand_number s.mode s.frames w t large (ap (λ k. takes_in s.mode s.frames k w) (sym (number_kind w n)) ∙ h) in
     elim (number_end (cs ++ 46 ∷ []) (digit_of c 46 cs digits.0 goes)) [
-      inl z ↦ (let u = c ∷ (cs ++ 46 ∷ []) in
-        let took = number_taken s.mode s.frames u mode (and_from _ _ digits.0 z) in
-        begins_front s took.0 c (cs ++ 46 ∷ []) [] (ap (takes s) (append-nil u) ∙ took.1))
-    | inr z ↦ (let u = (c ∷ (cs ++ 46 ∷ [])) ++ 48 ∷ [] in
-        let took = number_taken s.mode s.frames u mode (and_from _ _ digits.0 z) in
-        begins_front s took.0 c (cs ++ 46 ∷ []) (48 ∷ []) took.1) ]
+      | inl z ↦ (let u = c ∷ (cs ++ 46 ∷ []) in
+          let took = number_taken s.mode s.frames u mode (and_from _ _ digits.0 z) in
+          begins_front s took.0 c (cs ++ 46 ∷ []) [] (ap (takes s) (append-nil u) ∙ took.1))
+      | inr z ↦ (let u = (c ∷ (cs ++ 46 ∷ [])) ++ 48 ∷ [] in
+          let took = number_taken s.mode s.frames u mode (and_from _ _ digits.0 z) in
+          begins_front s took.0 c (cs ++ 46 ∷ []) (48 ∷ []) took.1)
+    ]
 
 -- digits that are too many already, and a point
 
@@ -243,9 +244,10 @@ point_ends : (c : ℕ) (cs : List ℕ) (b : ℕ) (bs : List ℕ) → is_digit c 
     → continues (c ∷ (cs ++ 46 ∷ [])) b ≡ true → ⊥
 point_ends c cs b bs d longest apart goes =
     elim (pointed ((cs ++ 46 ∷ []) ++ b ∷ []) (digit_of c b (cs ++ 46 ∷ []) d goes)) [
-      inl z ↦ nil_apart 46 (b ∷ []) (longest (46 ∷ b ∷ []) bs refl
-        (ap (λ v. is_token (c ∷ v)) (sym (append_assoc cs (46 ∷ []) (b ∷ []))) ∙ token_number (c ∷ ((cs ++ 46 ∷ []) ++ b ∷ [])) (and_from _ _ d z)))
-    | inr p ↦ apart (token_number (c ∷ (cs ++ 46 ∷ [])) (and_from _ _ d (ap ends_number (snoc_same (cs ++ 46 ∷ []) p.digits b 46 p.same) ∙ p.number))) ]
+      | inl z ↦ nil_apart 46 (b ∷ []) (longest (46 ∷ b ∷ []) bs refl
+          (ap (λ v. is_token (c ∷ v)) (sym (append_assoc cs (46 ∷ []) (b ∷ []))) ∙ token_number (c ∷ ((cs ++ 46 ∷ []) ++ b ∷ [])) (and_from _ _ d z)))
+      | inr p ↦ apart (token_number (c ∷ (cs ++ 46 ∷ [])) (and_from _ _ d (ap ends_number (snoc_same (cs ++ 46 ∷ []) p.digits b 46 p.same) ∙ p.number)))
+    ]
 
 point_stops : (c : ℕ) (cs bs : List ℕ) → is_digit c ≡ true → ends_number cs ≡ true → IsLongest (c ∷ cs) (46 ∷ bs) → (is_token (c ∷ (cs ++ 46 ∷ [])) ≡ true → ⊥) → Stops (c ∷ (cs ++ 46 ∷ [])) bs
 point_stops c cs [] d n longest apart = tt
@@ -291,16 +293,18 @@ follows_byte c cs b bs t found false goes token longest small out = inl goes
 follows_byte c cs b bs t found true goes token longest small out =
     let w = c ∷ cs in
     elim (tokens_of w token) [
-      inl z ↦ absurd (not_longer w (b ∷ bs) [] bs b longest refl (grown_word c b cs z goes))
-    | inr (inl z) ↦ (let parts = and_parts (is_digit c) _ z in
-        elim (number_grows cs b parts.1 (digit_of c b cs parts.0 goes)) [
-          inl number ↦ absurd (not_longer w (b ∷ bs) [] bs b longest refl (token_number (w ++ b ∷ []) (and_from _ _ parts.0 number)))
-        | inr point ↦ inr (bs, ap (λ x. x ∷ bs) point, z, ap (continues w) (sym point) ∙ goes) ])
-    | inr (inr (inl z)) ↦ (let long = (text_fault w t found (text_no_number w z) z out).0 in
-        let quoted = said_length true cs in
-        absurd (omega (arith, long, quoted, small)))
-    | inr (inr (inr z)) ↦ absurd (not_longer w (b ∷ bs) [] bs b longest refl
-        (token_symbol (w ++ b ∷ []) (grown_symbol c b cs symbols refl (symbol_of c b cs (symbol_plain w z) goes)))) ]
+      | inl z ↦ absurd (not_longer w (b ∷ bs) [] bs b longest refl (grown_word c b cs z goes))
+      | inr (inl z) ↦ (let parts = and_parts (is_digit c) _ z in
+          elim (number_grows cs b parts.1 (digit_of c b cs parts.0 goes)) [
+            | inl number ↦ absurd (not_longer w (b ∷ bs) [] bs b longest refl (token_number (w ++ b ∷ []) (and_from _ _ parts.0 number)))
+            | inr point ↦ inr (bs, ap (λ x. x ∷ bs) point, z, ap (continues w) (sym point) ∙ goes)
+          ])
+      | inr (inr (inl z)) ↦ (let long = (text_fault w t found (text_no_number w z) z out).0 in
+          let quoted = said_length true cs in
+          absurd (omega (arith, long, quoted, small)))
+      | inr (inr (inr z)) ↦ absurd (not_longer w (b ∷ bs) [] bs b longest refl
+          (token_symbol (w ++ b ∷ []) (grown_symbol c b cs symbols refl (symbol_of c b cs (symbol_plain w z) goes))))
+    ]
 
 follows : (c : ℕ) (cs after : List ℕ) (t : State) (found : ExprWhat) → is_token (c ∷ cs) ≡ true → IsLongest (c ∷ cs) after
     → length (c ∷ cs) ≤ 4096 → beyond true (c ∷ cs) t ≡ Some found → Follows (c ∷ cs) after
@@ -320,7 +324,7 @@ stopped_by at s t c cs after found (inr p) longest h out =
     let digits = and_parts (is_digit c) _ p.2 in
     ap (read true at s w) p.1
     ∙ point_case at s t c cs p.0 p.2 h out_number (longest_at w after (46 ∷ p.0) p.1 longest) p.3 (point_begins s t c cs p.2 (large_number w t p.2 out_number) h p.3)
-      (large_number w t p.2 out_number)
+    (large_number w t p.2 out_number)
     ∙ ap (fault (at - length w)) (sym is)
 
 read_beyond : (s t : State) (w : List ℕ) (at place : ℕ) (spaces after mid : List ℕ) (found : ExprWhat) → AreSpaces spaces → mid ≡ spaces ++ w ++ after → is_token w ≡ true

@@ -153,19 +153,19 @@ pub record Levels (o : Operator) : Type 0 where
   pub apart : 3 ≤ level_of o → 4 ≤ level_of o
 
 pub levels_of : (o : Operator) → Levels o
-levels_of op.Or = record { some = omega arith; small = omega arith; left = omega arith; right = refl; apart = λ h. absurd (omega (arith, h)); }
-levels_of op.And = record { some = omega arith; small = omega arith; left = omega arith; right = refl; apart = λ h. absurd (omega (arith, h)); }
-levels_of op.Equal = record { some = omega arith; small = omega arith; left = omega arith; right = refl; apart = λ h. omega arith; }
-levels_of op.NotEqual = record { some = omega arith; small = omega arith; left = omega arith; right = refl; apart = λ h. omega arith; }
-levels_of op.Less = record { some = omega arith; small = omega arith; left = omega arith; right = refl; apart = λ h. omega arith; }
-levels_of op.LessOrEqual = record { some = omega arith; small = omega arith; left = omega arith; right = refl; apart = λ h. omega arith; }
-levels_of op.Greater = record { some = omega arith; small = omega arith; left = omega arith; right = refl; apart = λ h. omega arith; }
-levels_of op.GreaterOrEqual = record { some = omega arith; small = omega arith; left = omega arith; right = refl; apart = λ h. omega arith; }
-levels_of op.Plus = record { some = omega arith; small = omega arith; left = omega arith; right = refl; apart = λ h. omega arith; }
-levels_of op.Minus = record { some = omega arith; small = omega arith; left = omega arith; right = refl; apart = λ h. omega arith; }
-levels_of op.Join = record { some = omega arith; small = omega arith; left = omega arith; right = refl; apart = λ h. omega arith; }
-levels_of op.Times = record { some = omega arith; small = omega arith; left = omega arith; right = refl; apart = λ h. omega arith; }
-levels_of op.Over = record { some = omega arith; small = omega arith; left = omega arith; right = refl; apart = λ h. omega arith; }
+levels_of op.Or = record { some = omega arith; small = omega arith; left = omega arith; right = refl; apart = λ h. absurd (omega (arith, h)) }
+levels_of op.And = record { some = omega arith; small = omega arith; left = omega arith; right = refl; apart = λ h. absurd (omega (arith, h)) }
+levels_of op.Equal = record { some = omega arith; small = omega arith; left = omega arith; right = refl; apart = λ h. omega arith }
+levels_of op.NotEqual = record { some = omega arith; small = omega arith; left = omega arith; right = refl; apart = λ h. omega arith }
+levels_of op.Less = record { some = omega arith; small = omega arith; left = omega arith; right = refl; apart = λ h. omega arith }
+levels_of op.LessOrEqual = record { some = omega arith; small = omega arith; left = omega arith; right = refl; apart = λ h. omega arith }
+levels_of op.Greater = record { some = omega arith; small = omega arith; left = omega arith; right = refl; apart = λ h. omega arith }
+levels_of op.GreaterOrEqual = record { some = omega arith; small = omega arith; left = omega arith; right = refl; apart = λ h. omega arith }
+levels_of op.Plus = record { some = omega arith; small = omega arith; left = omega arith; right = refl; apart = λ h. omega arith }
+levels_of op.Minus = record { some = omega arith; small = omega arith; left = omega arith; right = refl; apart = λ h. omega arith }
+levels_of op.Join = record { some = omega arith; small = omega arith; left = omega arith; right = refl; apart = λ h. omega arith }
+levels_of op.Times = record { some = omega arith; small = omega arith; left = omega arith; right = refl; apart = λ h. omega arith }
+levels_of op.Over = record { some = omega arith; small = omega arith; left = omega arith; right = refl; apart = λ h. omega arith }
 
 -- what stands in a frame binds no looser than an operator that comes next, so that the frame isn't joined
 frame_below : (g : Frame) (o : Operator) → room g ≤ level_of o → rank g < level_of o
@@ -416,11 +416,11 @@ complete_joined strict o p q left right ihp ihq fs ws low ends room =
     let d = levels_of o in
     ap (go strict (operand fs)) (append_assoc (tokens p) (sign o ∷ tokens q) ws)
     ∙ ihp fs (sign o ∷ (tokens q ++ ws)) (let e = d.left in omega (arith, e, low)) (sign_ends o (level p) (tokens q ++ ws) left)
-      (λ s. let r = (room s).0 in (omega (arith, r), (room s).1.0))
+    (λ s. let r = (room s).0 in (omega (arith, r), (room s).1.0))
     ∙ go_on_by strict (after (level p) (tree p) fs) (operand inner) (sign o) (tokens q ++ ws) (sign_plain o)
     (sign_taken fs o (level p) (tree p) low left) (λ s. let r = (room s).0 in omega (arith, r))
     ∙ ihq inner ws right (ends_within (level_of o) (level q) ws (let e = d.right in omega (arith, e)) ends)
-      (λ s. let r = (room s).0 in (omega (arith, r), (room s).1.1))
+    (λ s. let r = (room s).0 in (omega (arith, r), (room s).1.1))
     ∙ same_after strict (f.Left o (tree p)) fs (tree q) (level q) ws d.some ends
 
 complete_denied : (strict : Bool) (p : Phrase) → 3 ≤ level p → Completes strict p → Completes strict (denied p)

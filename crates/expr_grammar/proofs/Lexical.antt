@@ -51,10 +51,12 @@ Tokens w = (is_word w ≡ true) ⊎ ((is_number w ≡ true) ⊎ ((is_text w ≡ 
 pub tokens_of : (w : List ℕ) → is_token w ≡ true → Tokens w
 tokens_of w h =
     elim (or_cases _ _ h) [
-      inr z ↦ inr (inr (inr z))
-    | inl h3 ↦ elim (or_cases _ _ h3) [
-      inr z ↦ inr (inr (inl z))
-    | inl h2 ↦ elim (or_cases _ _ h2) [ inr z ↦ inr (inl z) | inl z ↦ inl z ] ] ]
+      | inr z ↦ inr (inr (inr z))
+      | inl h3 ↦ elim (or_cases _ _ h3) [
+        | inr z ↦ inr (inr (inl z))
+        | inl h2 ↦ elim (or_cases _ _ h2) [ inr z ↦ inr (inl z) | inl z ↦ inl z ]
+      ]
+    ]
 
 pub token_word : (w : List ℕ) → is_word w ≡ true → is_token w ≡ true
 token_word w h = or_left _ _ (or_left _ _ (or_left _ _ h))
@@ -113,8 +115,9 @@ front_symbol : (u v : List ℕ) (vs : List (List ℕ)) → is_among vs (u ++ v) 
 front_symbol u v [] h = absurd (false≢true h)
 front_symbol u v (s ∷ vs) h =
     elim (or_cases _ _ h) [
-      inl same ↦ or_left _ _ (ap (is_front u) (sym (same_bytes (u ++ v) s same)) ∙ front_append u v)
-    | inr rest ↦ or_right _ _ (front_symbol u v vs rest) ]
+      | inl same ↦ or_left _ _ (ap (is_front u) (sym (same_bytes (u ++ v) s same)) ∙ front_append u v)
+      | inr rest ↦ or_right _ _ (front_symbol u v vs rest)
+    ]
 
 -- a byte inside a token is one with which its front goes on
 
@@ -146,15 +149,16 @@ regroup u v b = sym (append_assoc u (b ∷ []) v)
 pub inside_continues : (c b : ℕ) (cs v : List ℕ) → is_token ((c ∷ cs) ++ b ∷ v) ≡ true → continues (c ∷ cs) b ≡ true
 inside_continues c b cs v h =
     elim (tokens_of ((c ∷ cs) ++ b ∷ v) h) [
-      inl z ↦ (let parts = and_parts (is_lower c) _ z in
-        let bytes : (list_all is_name_byte cs && list_all is_name_byte (b ∷ v)) ≡ true = sym (list_all-append is_name_byte cs (b ∷ v)) ∙ parts.1 in
-        continues_word c b cs parts.0 (and_parts _ _ (and_parts _ _ bytes).1).0)
-    | inr (inl z) ↦ (let parts = and_parts (is_digit c) _ z in
-        continues_number c b cs parts.0 (and_from _ _ parts.0 (front_number (cs ++ b ∷ []) v (ap ends_number (sym (regroup cs v b)) ∙ parts.1))))
-    | inr (inr (inl z)) ↦ (let parts = and_parts (c == 39) _ z in
-        continues_text c b cs parts.0 (and_from _ _ parts.0 (front_text true (cs ++ b ∷ []) v (ap (ends_text true) (sym (regroup cs v b)) ∙ parts.1))))
-    | inr (inr (inr z)) ↦ continues_symbol c b cs (symbol_plain ((c ∷ cs) ++ b ∷ v) z)
-        (front_symbol ((c ∷ cs) ++ b ∷ []) v symbols (ap (is_among symbols) (sym (regroup (c ∷ cs) v b)) ∙ z)) ]
+      | inl z ↦ (let parts = and_parts (is_lower c) _ z in
+          let bytes : (list_all is_name_byte cs && list_all is_name_byte (b ∷ v)) ≡ true = sym (list_all-append is_name_byte cs (b ∷ v)) ∙ parts.1 in
+          continues_word c b cs parts.0 (and_parts _ _ (and_parts _ _ bytes).1).0)
+      | inr (inl z) ↦ (let parts = and_parts (is_digit c) _ z in
+          continues_number c b cs parts.0 (and_from _ _ parts.0 (front_number (cs ++ b ∷ []) v (ap ends_number (sym (regroup cs v b)) ∙ parts.1))))
+      | inr (inr (inl z)) ↦ (let parts = and_parts (c == 39) _ z in
+          continues_text c b cs parts.0 (and_from _ _ parts.0 (front_text true (cs ++ b ∷ []) v (ap (ends_text true) (sym (regroup cs v b)) ∙ parts.1))))
+      | inr (inr (inr z)) ↦ continues_symbol c b cs (symbol_plain ((c ∷ cs) ++ b ∷ v) z)
+          (front_symbol ((c ∷ cs) ++ b ∷ []) v symbols (ap (is_among symbols) (sym (regroup (c ∷ cs) v b)) ∙ z))
+    ]
 
 -- what follows a token in a text: nothing, a space, or a token
 
@@ -214,11 +218,12 @@ grown_symbol c b cs [] short h = absurd (false≢true h)
 grown_symbol c b cs (v ∷ vs) short h =
     let parts = and_parts (is_short v) _ short in
     elim (or_cases _ _ h) [
-      inl front ↦ (let rest = rest_of_front ((c ∷ cs) ++ b ∷ []) v front in
-        let size : length v ≤ 2 = leb-true _ _ parts.0 in
-        let sizes : length v ≡ length (c ∷ cs) + 1 + length rest.0 = ap length rest.1 ∙ simp length-append in
-        or_left _ _ (bytes_same ((c ∷ cs) ++ b ∷ []) v (sym (rest.1 ∙ none_more (c ∷ cs) b rest.0 (omega (arith, size, sizes))))))
-    | inr others ↦ or_right _ _ (grown_symbol c b cs vs parts.1 others) ]
+      | inl front ↦ (let rest = rest_of_front ((c ∷ cs) ++ b ∷ []) v front in
+          let size : length v ≤ 2 = leb-true _ _ parts.0 in
+          let sizes : length v ≡ length (c ∷ cs) + 1 + length rest.0 = ap length rest.1 ∙ simp length-append in
+          or_left _ _ (bytes_same ((c ∷ cs) ++ b ∷ []) v (sym (rest.1 ∙ none_more (c ∷ cs) b rest.0 (omega (arith, size, sizes))))))
+      | inr others ↦ or_right _ _ (grown_symbol c b cs vs parts.1 others)
+    ]
 
 snoc_all : (p : ℕ → Bool) (cs : List ℕ) (b : ℕ) → list_all p cs ≡ true → p b ≡ true → list_all p (cs ++ b ∷ []) ≡ true
 snoc_all p cs b h q = list_all-append p cs (b ∷ []) ∙ and_from _ _ h (and_from _ _ q refl)
@@ -263,10 +268,11 @@ point_no_token t = refl
 quote_text : (t : List ℕ) → is_token (39 ∷ t) ≡ true → ends_text true t ≡ true
 quote_text t h =
     elim (tokens_of (39 ∷ t) h) [
-      inl z ↦ absurd (false≢true z)
-    | inr (inl z) ↦ absurd (false≢true z)
-    | inr (inr (inl z)) ↦ z
-    | inr (inr (inr z)) ↦ absurd (false≢true (symbol_plain (39 ∷ t) z)) ]
+      | inl z ↦ absurd (false≢true z)
+      | inr (inl z) ↦ absurd (false≢true z)
+      | inr (inr (inl z)) ↦ z
+      | inr (inr (inr z)) ↦ absurd (false≢true (symbol_plain (39 ∷ t) z))
+    ]
 
 pub digit_of : (c b : ℕ) (cs : List ℕ) → is_digit c ≡ true → continues (c ∷ cs) b ≡ true → goes_number (cs ++ b ∷ []) ≡ true
 digit_of c b cs d goes = let l = digit_no_letter c d in rw (l, d) at goes
@@ -292,17 +298,19 @@ no_more : (c b : ℕ) (cs t rest after : List ℕ) → is_token (c ∷ cs) ≡ t
     → continues (c ∷ cs) b ≡ true → ⊥
 no_more c b cs t rest after token longest next same goes =
     elim (tokens_of (c ∷ cs) token) [
-      inl z ↦ not_longer (c ∷ cs) after [] (t ++ rest) b longest same (grown_word c b cs z goes)
-    | inr (inl z) ↦ (let parts = and_parts (is_digit c) _ z in
-        elim (number_grows cs b parts.1 (digit_of c b cs parts.0 goes)) [
-          inl number ↦ not_longer (c ∷ cs) after [] (t ++ rest) b longest same (token_number ((c ∷ cs) ++ b ∷ []) (and_from _ _ parts.0 number))
-        | inr point ↦ false≢true (sym (point_no_token t) ∙ ap (λ x. is_token (x ∷ t)) (sym point) ∙ next) ])
-    | inr (inr (inl z)) ↦ (let parts = and_parts (c == 39) _ z in
-        let quote = eqb-true b 39 (text_grows true cs b parts.1 (quote_of c b cs parts.0 goes)) in
-        let text = quote_text t (ap (λ x. is_token (x ∷ t)) (sym quote) ∙ next) in
-        not_longer (c ∷ cs) after t rest b longest same (ap (λ x. is_token ((c ∷ cs) ++ x ∷ t)) quote ∙ token_text ((c ∷ cs) ++ 39 ∷ t) (and_from _ _ parts.0 (joined_texts true cs t parts.1 text))))
-    | inr (inr (inr z)) ↦ not_longer (c ∷ cs) after [] (t ++ rest) b longest same
-        (token_symbol ((c ∷ cs) ++ b ∷ []) (grown_symbol c b cs symbols refl (symbol_of c b cs (symbol_plain (c ∷ cs) z) goes))) ]
+      | inl z ↦ not_longer (c ∷ cs) after [] (t ++ rest) b longest same (grown_word c b cs z goes)
+      | inr (inl z) ↦ (let parts = and_parts (is_digit c) _ z in
+          elim (number_grows cs b parts.1 (digit_of c b cs parts.0 goes)) [
+            | inl number ↦ not_longer (c ∷ cs) after [] (t ++ rest) b longest same (token_number ((c ∷ cs) ++ b ∷ []) (and_from _ _ parts.0 number))
+            | inr point ↦ false≢true (sym (point_no_token t) ∙ ap (λ x. is_token (x ∷ t)) (sym point) ∙ next)
+          ])
+      | inr (inr (inl z)) ↦ (let parts = and_parts (c == 39) _ z in
+          let quote = eqb-true b 39 (text_grows true cs b parts.1 (quote_of c b cs parts.0 goes)) in
+          let text = quote_text t (ap (λ x. is_token (x ∷ t)) (sym quote) ∙ next) in
+          not_longer (c ∷ cs) after t rest b longest same (ap (λ x. is_token ((c ∷ cs) ++ x ∷ t)) quote ∙ token_text ((c ∷ cs) ++ 39 ∷ t) (and_from _ _ parts.0 (joined_texts true cs t parts.1 text))))
+      | inr (inr (inr z)) ↦ not_longer (c ∷ cs) after [] (t ++ rest) b longest same
+          (token_symbol ((c ∷ cs) ++ b ∷ []) (grown_symbol c b cs symbols refl (symbol_of c b cs (symbol_plain (c ∷ cs) z) goes)))
+    ]
 
 abbrev has_no_space : List ℕ → Bool
 has_no_space w = list_all (λ b. not (b == 32)) w
@@ -317,10 +325,11 @@ symbol_no_space c cs z goes =
 pub no_space : (c : ℕ) (cs : List ℕ) → is_token (c ∷ cs) ≡ true → continues (c ∷ cs) 32 ≡ false
 no_space c cs token =
     elim (tokens_of (c ∷ cs) token) [
-      inl z ↦ no_space_word c cs (and_parts _ _ z).0
-    | inr (inl z) ↦ no_space_number c cs (and_parts _ _ z).0
-    | inr (inr (inl z)) ↦ no_space_text c cs z
-    | inr (inr (inr z)) ↦ false_from_ne_true (continues (c ∷ cs) 32) (symbol_no_space c cs z) ]
+      | inl z ↦ no_space_word c cs (and_parts _ _ z).0
+      | inr (inl z) ↦ no_space_number c cs (and_parts _ _ z).0
+      | inr (inr (inl z)) ↦ no_space_text c cs z
+      | inr (inr (inr z)) ↦ false_from_ne_true (continues (c ∷ cs) 32) (symbol_no_space c cs z)
+    ]
 
 stops_at : (w after other : List ℕ) → after ≡ other → Stops w other → Stops w after
 stops_at w after other same h = subst (Stops w) (sym same) h

@@ -22,7 +22,7 @@ too_large bytes i n inside digit same large =
     let rest = filter is_digit (drop (i + 1) bytes) in
     let taken : filter is_digit (d ∷ drop (i + 1) bytes) ≡ d ∷ rest = rw digit refl in
     let step : digits_value_after 10 n (filter is_digit (drop i bytes)) ≡ digits_value_after 10 (n * 10 + digit_value d) rest =
-      ap (λ xs. digits_value_after 10 n (filter is_digit xs)) (drop_more bytes i 0 inside) ∙ ap (digits_value_after 10 n) taken in
+    ap (λ xs. digits_value_after 10 n (filter is_digit xs)) (drop_more bytes i 0 inside) ∙ ap (digits_value_after 10 n) taken in
     omega (arith, no_smaller (n * 10 + digit_value d) rest, digit_is d digit, step, same, large)
 
 pub if_too_large : (o : Option ℕ) (bytes : List ℕ) (i n : ℕ) → i < length bytes → is_digit (get_or bytes i 0) ≡ true

@@ -73,7 +73,7 @@ phrase_tokens (coalesce p q) h =
 phrase_tokens (choice p q r) h =
     call_all (codes "if") (tokens p ++ codes "," ∷ (tokens q ++ codes "," ∷ tokens r)) refl
     (all_append (tokens p) (codes "," ∷ (tokens q ++ codes "," ∷ tokens r)) (phrase_tokens p h.0)
-      (refl, all_append (tokens q) (codes "," ∷ tokens r) (phrase_tokens q h.1) (refl, phrase_tokens r h.2)))
+    (refl, all_append (tokens q) (codes "," ∷ tokens r) (phrase_tokens q h.1) (refl, phrase_tokens r h.2)))
 phrase_tokens (joined o p q) h = all_append (tokens p) (sign o ∷ tokens q) (phrase_tokens p h.2) (sign_token o, phrase_tokens q h.3)
 phrase_tokens (denied p) h = (refl, phrase_tokens p h.1)
 phrase_tokens (negated p) h = (refl, phrase_tokens p h.1)

@@ -20,14 +20,15 @@ pointed_byte : (b : ℕ) (u : List ℕ) (d : Bool) → is_digit b ≡ d → (goe
     → (cond d (ends_number u) ((b == 46) && are_places u) ≡ true) ⊎ Pointed (b ∷ u)
 pointed_byte b u true is rest h =
     elim (rest h) [
-      inl z ↦ inl z
-    | inr p ↦ inr (record {
+      | inl z ↦ inl z
+      | inr p ↦ inr (record {
         digits = b ∷ p.digits;
         same = ap (λ v. b ∷ v) p.same;
         number = rw is p.number;
         filtered = rw is (ap (λ v. b ∷ v) p.filtered);
-      }) ]
-pointed_byte b [] false is rest h = inr (record { digits = []; same = ap (λ x. x ∷ []) (eqb-true b 46 (and_parts _ _ (and_parts _ _ h).0).0); number = refl; filtered = rw is refl; })
+      })
+    ]
+pointed_byte b [] false is rest h = inr (record { digits = []; same = ap (λ x. x ∷ []) (eqb-true b 46 (and_parts _ _ (and_parts _ _ h).0).0); number = refl; filtered = rw is refl })
 pointed_byte b (x ∷ u) false is rest h =
     let one = and_parts _ _ h in
     let two = and_parts _ _ one.0 in
@@ -44,7 +45,8 @@ digit_no_quote b h = grind (arith, nat_tests)
 pub digit_token : (c : ℕ) (cs : List ℕ) → is_digit c ≡ true → is_token (c ∷ cs) ≡ true → is_number (c ∷ cs) ≡ true
 digit_token c cs d h =
     elim (tokens_of (c ∷ cs) h) [
-      inl z ↦ absurd (false≢true (sym (digit_no_letter c d) ∙ (and_parts _ _ z).0))
-    | inr (inl z) ↦ z
-    | inr (inr (inl z)) ↦ absurd (false≢true (sym (digit_no_quote c d) ∙ (and_parts _ _ z).0))
-    | inr (inr (inr z)) ↦ absurd (false≢true (sym (not_true (is_digit c) (and_parts _ _ (and_parts _ _ (symbol_plain (c ∷ cs) z)).0).1) ∙ d)) ]
+      | inl z ↦ absurd (false≢true (sym (digit_no_letter c d) ∙ (and_parts _ _ z).0))
+      | inr (inl z) ↦ z
+      | inr (inr (inl z)) ↦ absurd (false≢true (sym (digit_no_quote c d) ∙ (and_parts _ _ z).0))
+      | inr (inr (inr z)) ↦ absurd (false≢true (sym (not_true (is_digit c) (and_parts _ _ (and_parts _ _ (symbol_plain (c ∷ cs) z)).0).1) ∙ d))
+    ]

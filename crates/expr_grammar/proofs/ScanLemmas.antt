@@ -148,7 +148,7 @@ after_digit ok (b ∷ bs) = if is_digit b then after_digit ok bs else ((b == 46)
 
 digit_counts : (ok : ℕ → Bool) (b : ℕ) (bs : List ℕ) (d p : Bool) → after_digit ok bs ≡ counts ok (scan_after scan.Digits bs)
     → cond d (after_digit ok bs) (p && (list_all is_digit bs && ok (length bs) && nat_le (length bs) 6))
-      ≡ counts ok (scan_after (cond d scan.Digits (cond p (scan.Places 0) scan.Broken)) bs)
+    ≡ counts ok (scan_after (cond d scan.Digits (cond p (scan.Places 0) scan.Broken)) bs)
 digit_counts ok b bs true p rest = rest
 digit_counts ok b bs false true rest =
     let same : length bs ≡ 0 + length bs = omega arith in

@@ -276,7 +276,7 @@ plugged strict (f.Left o a ∷ fs) ts p s h fits room =
     completed_at strict (ts ++ tokens p) (us ++ tokens (joined o q p))
     (ap (λ v. v ++ tokens p) s.7 ∙ sym (regroup_left us (tokens q) (tokens p) (sign o)))
     (plugged strict fs us (joined o q p) s.8 (s.3, fits, s.2, h) s.4
-      (λ d. let r = (room d).0 in let z = (s.5 d).0 in (omega (arith, r, z), ((s.5 d).1, (room d).1))))
+    (λ d. let r = (room d).0 in let z = (s.5 d).0 in (omega (arith, r, z), ((s.5 d).1, (room d).1))))
 plugged strict (f.Not ∷ fs) ts p s h fits room =
     let us = s.0 in
     completed_at strict (ts ++ tokens p) (us ++ tokens (denied p))
@@ -302,24 +302,24 @@ plugged strict (f.CoalesceSecond a ∷ fs) ts p s h fits room =
     let us = s.1 in
     completed_by strict (ts ++ tokens p) (us ++ tokens (coalesce q p)) (codes ")" ∷ [])
     (regroup_second us (tokens q) (tokens p) (codes "coalesce") (codes "(") (codes ",") (codes ")")
-      ∙ ap (λ v. (v ++ tokens p) ++ codes ")" ∷ []) (sym s.5))
+    ∙ ap (λ v. (v ++ tokens p) ++ codes ")" ∷ []) (sym s.5))
     (plugged strict fs us (coalesce q p) s.6 (s.2, h) (hole_eight fs)
-      (λ d. let r = (room d).0 in let z = (s.3 d).0 in (omega (arith, r, z), ((s.3 d).1, (room d).1))))
+    (λ d. let r = (room d).0 in let z = (s.3 d).0 in (omega (arith, r, z), ((s.3 d).1, (room d).1))))
 plugged strict (f.IfSecond a ∷ fs) ts p s h fits room =
     let q = s.0 in
     let us = s.1 in
     completed_by strict (ts ++ tokens p) (us ++ tokens (choice q p zero_number)) (codes "," ∷ codes "0" ∷ codes ")" ∷ [])
     (regroup_middle us (tokens q) (tokens p) (codes "if") (codes "(") (codes ",") (codes "0") (codes ")")
-      ∙ ap (λ v. (v ++ tokens p) ++ codes "," ∷ codes "0" ∷ codes ")" ∷ []) (sym s.5))
+    ∙ ap (λ v. (v ++ tokens p) ++ codes "," ∷ codes "0" ∷ codes ")" ∷ []) (sym s.5))
     (plugged strict fs us (choice q p zero_number) s.6 (s.2, h, refl) (hole_eight fs)
-      (λ d. let r = (room d).0 in let z = (s.3 d).0 in (omega (arith, r, z), ((s.3 d).1, (room d).1, lit< tt))))
+    (λ d. let r = (room d).0 in let z = (s.3 d).0 in (omega (arith, r, z), ((s.3 d).1, (room d).1, lit< tt))))
 plugged strict (f.IfThird a b ∷ fs) ts p s h fits room =
     let us = s.2 in
     completed_by strict (ts ++ tokens p) (us ++ tokens (choice s.0 s.1 p)) (codes ")" ∷ [])
     (regroup_third us (tokens s.0) (tokens s.1) (tokens p) (codes "if") (codes "(") (codes ",") (codes ")")
-      ∙ ap (λ v. (v ++ tokens p) ++ codes ")" ∷ []) (sym s.9))
+    ∙ ap (λ v. (v ++ tokens p) ++ codes ")" ∷ []) (sym s.9))
     (plugged strict fs us (choice s.0 s.1 p) s.10 (s.3, s.4, h) (hole_eight fs)
-      (λ d. let r = (room d).0 in let y = (s.5 d).0 in let z = (s.6 d).0 in (omega (arith, r, y, z), ((s.5 d).1, (s.6 d).1, (room d).1))))
+    (λ d. let r = (room d).0 in let y = (s.5 d).0 in let z = (s.6 d).0 in (omega (arith, r, y, z), ((s.5 d).1, (s.6 d).1, (room d).1))))
 
 zero_room : (strict : Bool) (fs : List Frame) → (strict ≡ true → levels fs ≤ 64) → Room strict fs zero_number
 zero_room strict fs h = λ d. let r = h d in (omega (arith, r), lit< tt)
@@ -348,7 +348,7 @@ completed_in strict (m.Opening g) fs ts h =
     completed_by strict ts (us ++ tokens (called g zero_number)) (codes "(" ∷ codes "0" ∷ called_more g)
     (called_spelt g us zero_number ∙ called_tokens us (word_of g) (codes "(") (codes "0") (called_more g) ∙ ap (λ v. v ++ codes "(" ∷ codes "0" ∷ called_more g) (sym h.1))
     (plugged strict fs us (called g zero_number) h.2 (called_phrase g zero_number refl) (called_level g zero_number fs)
-      (called_room strict g zero_number fs (λ d. let r = h.3 d in (omega (arith, r), lit< tt))))
+    (called_room strict g zero_number fs (λ d. let r = h.3 d in (omega (arith, r), lit< tt))))
 completed_in strict (m.After l x) fs ts h =
     completed_at strict ts (h.before ++ tokens h.phrase) h.spelt (plugged strict fs h.before h.phrase h.stands h.is_phrase h.fits h.room)
 completed_in strict (m.Is x) fs ts h =
@@ -490,10 +490,20 @@ with_operator_holds : (strict : Bool) (o : Operator) (r : Reduced) (ts : List (L
 with_operator_holds strict o r ts t h true is same =
     let s = h.0 in
     let made_it : with_operator o r ≡ Some (operand (f.Left o r.expr ∷ r.frames)) = rw is refl in
-    given (λ u. Holds strict u (ts ++ sign o ∷ [])) (operand (f.Left o r.expr ∷ r.frames)) t (sym made_it ∙ same)
-    ((s.phrase, s.before, s.is_phrase, (let left : left_of o ≤ r.level = leb-true _ _ is in let same_level = s.level_is in omega (arith, left, same_level)),
-      h.1, s.room, s.tree_is, ap (λ v. v ++ sign o ∷ []) s.spelt, s.stands),
-    λ d. let open_now = levels_room strict r.frames s.phrase s.room d in omega (arith, open_now))
+    given (λ u. Holds strict u (ts ++ sign o ∷ [])) (operand (f.Left o r.expr ∷ r.frames)) t (sym made_it ∙ same) (
+      (
+        s.phrase,
+        s.before,
+        s.is_phrase,
+        (let left : left_of o ≤ r.level = leb-true _ _ is in let same_level = s.level_is in omega (arith, left, same_level)),
+        h.1,
+        s.room,
+        s.tree_is,
+        ap (λ v. v ++ sign o ∷ []) s.spelt,
+        s.stands,
+      ),
+      λ d. let open_now = levels_room strict r.frames s.phrase s.room d in omega (arith, open_now),
+    )
 with_operator_holds strict o r ts t h false is same =
     let none : with_operator o r ≡ None = rw is refl in
     no_state (λ u. Holds strict u (ts ++ sign o ∷ [])) t (sym none ∙ same)
@@ -543,7 +553,7 @@ stood_whole : (strict : Bool) (fs : List Frame) (q : Phrase) (us ts : List (List
     → tree q ≡ x → Room strict fs q → ts ≡ us ++ tokens q → Stands strict fs us → Holds strict t ts
 stood_whole strict fs q us ts x t same h lev tr room spelt stands =
     given (λ u. Holds strict u ts) (after 8 x fs) t same
-    (record { phrase = q; before = us; is_phrase = h; level_is = lev; tree_is = tr; fits = omega (arith, lev, hole_small fs); room = room; spelt = spelt; stands = stands; })
+    (record { phrase = q; before = us; is_phrase = h; level_is = lev; tree_is = tr; fits = omega (arith, lev, hole_small fs); room = room; spelt = spelt; stands = stands })
 
 closed_call : (strict : Bool) (g : Function) (l : ℕ) (x : Expr) (fs : List Frame) (ts : List (List ℕ)) (t : State) → Stood strict l x (f.First g ∷ fs) ts
     → ended_call g x fs ≡ Some t → Holds strict t (ts ++ codes ")" ∷ [])
@@ -602,18 +612,27 @@ parted_call strict fn.Length l x fs ts t h same = no_state (λ u. Holds strict u
 parted_call strict fn.Scale l x fs ts t h same =
     let s = h.stands in
     given (λ u. Holds strict u (ts ++ codes "," ∷ [])) (at_mode (m.Digit x) fs) t same
-    (record { phrase = h.phrase; before = s.0; is_phrase = h.is_phrase; tree_is = h.tree_is; room = h.room;
-      spelt = first_tokens s.0 (tokens h.phrase) h.before ts (codes "scale") (codes "(") (codes ",") s.1 h.spelt; stands = s.2; })
+    (record {
+      phrase = h.phrase;
+      before = s.0;
+      is_phrase = h.is_phrase;
+      tree_is = h.tree_is;
+      room = h.room;
+      spelt = first_tokens s.0 (tokens h.phrase) h.before ts (codes "scale") (codes "(") (codes ",") s.1 h.spelt;
+      stands = s.2;
+    })
 parted_call strict fn.Coalesce l x fs ts t h same =
     let s = h.stands in
-    given (λ u. Holds strict u (ts ++ codes "," ∷ [])) (operand (f.CoalesceSecond x ∷ fs)) t same
-    ((h.phrase, s.0, h.is_phrase, h.room, h.tree_is, first_tokens s.0 (tokens h.phrase) h.before ts (codes "coalesce") (codes "(") (codes ",") s.1 h.spelt, s.2),
-    levels_room strict (f.First fn.Coalesce ∷ fs) h.phrase h.room)
+    given (λ u. Holds strict u (ts ++ codes "," ∷ [])) (operand (f.CoalesceSecond x ∷ fs)) t same (
+      (h.phrase, s.0, h.is_phrase, h.room, h.tree_is, first_tokens s.0 (tokens h.phrase) h.before ts (codes "coalesce") (codes "(") (codes ",") s.1 h.spelt, s.2),
+      levels_room strict (f.First fn.Coalesce ∷ fs) h.phrase h.room,
+    )
 parted_call strict fn.If l x fs ts t h same =
     let s = h.stands in
-    given (λ u. Holds strict u (ts ++ codes "," ∷ [])) (operand (f.IfSecond x ∷ fs)) t same
-    ((h.phrase, s.0, h.is_phrase, h.room, h.tree_is, first_tokens s.0 (tokens h.phrase) h.before ts (codes "if") (codes "(") (codes ",") s.1 h.spelt, s.2),
-    levels_room strict (f.First fn.If ∷ fs) h.phrase h.room)
+    given (λ u. Holds strict u (ts ++ codes "," ∷ [])) (operand (f.IfSecond x ∷ fs)) t same (
+      (h.phrase, s.0, h.is_phrase, h.room, h.tree_is, first_tokens s.0 (tokens h.phrase) h.before ts (codes "if") (codes "(") (codes ",") s.1 h.spelt, s.2),
+      levels_room strict (f.First fn.If ∷ fs) h.phrase h.room,
+    )
 
 parted_holds : (strict : Bool) (l : ℕ) (x : Expr) (fs : List Frame) (ts : List (List ℕ)) (t : State) → Stood strict l x fs ts
     → parted_in x fs ≡ Some t → Holds strict t (ts ++ codes "," ∷ [])
@@ -621,10 +640,22 @@ parted_holds strict l x [] ts t h same = no_state (λ u. Holds strict u (ts ++ c
 parted_holds strict l x (f.First g ∷ fs) ts t h same = parted_call strict g l x fs ts t h same
 parted_holds strict l x (f.IfSecond a ∷ fs) ts t h same =
     let s = h.stands in
-    given (λ u. Holds strict u (ts ++ codes "," ∷ [])) (operand (f.IfThird a x ∷ fs)) t same
-    ((s.0, h.phrase, s.1, s.2, h.is_phrase, s.3, h.room, s.4, h.tree_is,
-      middle_tokens s.1 (tokens s.0) (tokens h.phrase) h.before ts (codes "if") (codes "(") (codes ",") s.5 h.spelt, s.6),
-    levels_room strict (f.IfSecond a ∷ fs) h.phrase h.room)
+    given (λ u. Holds strict u (ts ++ codes "," ∷ [])) (operand (f.IfThird a x ∷ fs)) t same (
+      (
+        s.0,
+        h.phrase,
+        s.1,
+        s.2,
+        h.is_phrase,
+        s.3,
+        h.room,
+        s.4,
+        h.tree_is,
+        middle_tokens s.1 (tokens s.0) (tokens h.phrase) h.before ts (codes "if") (codes "(") (codes ",") s.5 h.spelt,
+        s.6,
+      ),
+      levels_room strict (f.IfSecond a ∷ fs) h.phrase h.room,
+    )
 parted_holds strict l x (f.Left o a ∷ fs) ts t h same = no_state (λ u. Holds strict u (ts ++ codes "," ∷ [])) t same
 parted_holds strict l x (f.Not ∷ fs) ts t h same = no_state (λ u. Holds strict u (ts ++ codes "," ∷ [])) t same
 parted_holds strict l x (f.Negated ∷ fs) ts t h same = no_state (λ u. Holds strict u (ts ++ codes "," ∷ [])) t same
@@ -758,19 +789,31 @@ next_is : (strict : Bool) (x : Expr) (fs : List Frame) (k : Kind) → Next stric
 next_is strict x fs kind.Not ts w t h k limits same =
     holds_at strict t ts (codes "not") w k
     (given (λ u. Holds strict u (ts ++ codes "not" ∷ [])) (at_mode (m.IsNot x) fs) t same
-      (record {
-        phrase = h.phrase; before = h.before; is_phrase = h.is_phrase; high = h.high; tree_is = h.tree_is; fits = h.fits; room = h.room;
-        spelt = not_tokens ts h.before (tokens h.phrase) (codes "is") (codes "not") h.spelt;
-        stands = h.stands;
-      }))
+    (record {
+      phrase = h.phrase;
+      before = h.before;
+      is_phrase = h.is_phrase;
+      high = h.high;
+      tree_is = h.tree_is;
+      fits = h.fits;
+      room = h.room;
+      spelt = not_tokens ts h.before (tokens h.phrase) (codes "is") (codes "not") h.spelt;
+      stands = h.stands;
+    }))
 next_is strict x fs kind.Null ts w t h k limits same =
     holds_at strict t ts (codes "null") w k
     (given (λ u. Holds strict u (ts ++ codes "null" ∷ [])) (after 4 (e.IsNull x) fs) t same
-      (record {
-        phrase = is_null h.phrase; before = h.before; is_phrase = (h.high, h.is_phrase); level_is = refl; tree_is = ap e.IsNull h.tree_is; fits = h.fits; room = h.room;
-        spelt = null_tokens ts h.before (tokens h.phrase) (codes "is") (codes "null") h.spelt;
-        stands = h.stands;
-      }))
+    (record {
+      phrase = is_null h.phrase;
+      before = h.before;
+      is_phrase = (h.high, h.is_phrase);
+      level_is = refl;
+      tree_is = ap e.IsNull h.tree_is;
+      fits = h.fits;
+      room = h.room;
+      spelt = null_tokens ts h.before (tokens h.phrase) (codes "is") (codes "null") h.spelt;
+      stands = h.stands;
+    }))
 next_is strict x fs kind.Number ts w t h k limits same = refused strict ts w t same
 next_is strict x fs kind.Text ts w t h k limits same = refused strict ts w t same
 next_is strict x fs kind.Name ts w t h k limits same = refused strict ts w t same
@@ -786,11 +829,17 @@ next_is_not : (strict : Bool) (x : Expr) (fs : List Frame) (k : Kind) → Next s
 next_is_not strict x fs kind.Null ts w t h k limits same =
     holds_at strict t ts (codes "null") w k
     (given (λ u. Holds strict u (ts ++ codes "null" ∷ [])) (after 4 (e.IsNotNull x) fs) t same
-      (record {
-        phrase = is_not_null h.phrase; before = h.before; is_phrase = (h.high, h.is_phrase); level_is = refl; tree_is = ap e.IsNotNull h.tree_is; fits = h.fits; room = h.room;
-        spelt = not_null_tokens ts h.before (tokens h.phrase) (codes "is") (codes "not") (codes "null") h.spelt;
-        stands = h.stands;
-      }))
+    (record {
+      phrase = is_not_null h.phrase;
+      before = h.before;
+      is_phrase = (h.high, h.is_phrase);
+      level_is = refl;
+      tree_is = ap e.IsNotNull h.tree_is;
+      fits = h.fits;
+      room = h.room;
+      spelt = not_null_tokens ts h.before (tokens h.phrase) (codes "is") (codes "not") (codes "null") h.spelt;
+      stands = h.stands;
+    }))
 next_is_not strict x fs kind.Number ts w t h k limits same = refused strict ts w t same
 next_is_not strict x fs kind.Text ts w t h k limits same = refused strict ts w t same
 next_is_not strict x fs kind.Name ts w t h k limits same = refused strict ts w t same
@@ -808,9 +857,9 @@ next_scaled strict x n fs kind.Close ts w t h k limits same =
     let s = h.3 in
     holds_at strict t ts (codes ")") w k
     (stood_whole strict fs (scale s.phrase h.0) s.before (ts ++ codes ")" ∷ []) (e.Scale x n) t same (s.is_phrase, h.1) refl
-      (ap (λ y. e.Scale y (slice_index h.0 0 - 48)) s.tree_is ∙ ap (e.Scale x) h.2)
-      (λ d. let r = (s.room d).0 in (omega (arith, r), (s.room d).1))
-      (scale_spelt ts s.before (tokens s.phrase) (codes "scale") (codes "(") (codes ",") h.0 (codes ")") s.spelt) s.stands)
+    (ap (λ y. e.Scale y (slice_index h.0 0 - 48)) s.tree_is ∙ ap (e.Scale x) h.2)
+    (λ d. let r = (s.room d).0 in (omega (arith, r), (s.room d).1))
+    (scale_spelt ts s.before (tokens s.phrase) (codes "scale") (codes "(") (codes ",") h.0 (codes ")") s.spelt) s.stands)
 next_scaled strict x n fs kind.Number ts w t h k limits same = refused strict ts w t same
 next_scaled strict x n fs kind.Text ts w t h k limits same = refused strict ts w t same
 next_scaled strict x n fs kind.Name ts w t h k limits same = refused strict ts w t same
@@ -826,9 +875,20 @@ next_scaled strict x n fs kind.Other ts w t h k limits same = refused strict ts 
 next_digit : (strict : Bool) (x : Expr) (fs : List Frame) (k : Kind) (ts : List (List ℕ)) (w : List ℕ) (t : State) (b : Bool) → is_scale w ≡ b → HoldsIn strict (m.Digit x) fs ts
     → cond b (Some (at_mode (m.Scaled x (slice_index w 0 - 48)) fs)) None ≡ Some t → Holds strict t (ts ++ w ∷ [])
 next_digit strict x fs k ts w t true digit h same =
-    given (λ u. Holds strict u (ts ++ w ∷ [])) (at_mode (m.Scaled x (slice_index w 0 - 48)) fs) t same
-    (w, digit, refl, record { phrase = h.phrase; before = h.before; is_phrase = h.is_phrase; tree_is = h.tree_is; room = h.room;
-      spelt = picked_tokens ts h.before (tokens h.phrase) (codes "scale") (codes "(") (codes ",") w h.spelt; stands = h.stands; })
+    given (λ u. Holds strict u (ts ++ w ∷ [])) (at_mode (m.Scaled x (slice_index w 0 - 48)) fs) t same (
+      w,
+      digit,
+      refl,
+      record {
+        phrase = h.phrase;
+        before = h.before;
+        is_phrase = h.is_phrase;
+        tree_is = h.tree_is;
+        room = h.room;
+        spelt = picked_tokens ts h.before (tokens h.phrase) (codes "scale") (codes "(") (codes ",") w h.spelt;
+        stands = h.stands;
+      },
+    )
 next_digit strict x fs k ts w t false digit h same = refused strict ts w t same
 
 next_in : (strict : Bool) (m : Mode) (fs : List Frame) (k : Kind) → Next strict m fs k

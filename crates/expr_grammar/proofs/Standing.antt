@@ -105,8 +105,9 @@ any_of : (p : Kind → Bool) (ks : List Kind) → list_any p ks ≡ true → (k 
 any_of p [] h = absurd (false≢true h)
 any_of p (j ∷ ks) h =
     elim (or_cases (p j) _ h) [
-      inl q ↦ (j, inl refl, q)
-    | inr q ↦ (let rest = any_of p ks q in (rest.0, inr rest.1, rest.2)) ]
+      | inl q ↦ (j, inl refl, q)
+      | inr q ↦ (let rest = any_of p ks q in (rest.0, inr rest.1, rest.2))
+    ]
 
 abbrev AreSpelt : List Kind → Type 0
 AreSpelt [] = Unit {0}
@@ -271,16 +272,18 @@ ended_number m fs [] by n h = absurd (false≢true n)
 ended_number m fs (c ∷ cs) by n h =
     let parts = and_parts (is_digit c) _ n in
     elim (number_end cs parts.1) [
-      inl z ↦ ended_by m fs (c ∷ cs) [] (c ∷ cs) kind.Number by (sym (append-nil (c ∷ cs))) (number_kind (c ∷ cs) (and_from _ _ parts.0 z)) h
-    | inr z ↦ ended_by m fs (c ∷ cs) (48 ∷ []) ((c ∷ cs) ++ 48 ∷ []) kind.Number by refl (number_kind ((c ∷ cs) ++ 48 ∷ []) (and_from _ _ parts.0 z)) h ]
+      | inl z ↦ ended_by m fs (c ∷ cs) [] (c ∷ cs) kind.Number by (sym (append-nil (c ∷ cs))) (number_kind (c ∷ cs) (and_from _ _ parts.0 z)) h
+      | inr z ↦ ended_by m fs (c ∷ cs) (48 ∷ []) ((c ∷ cs) ++ 48 ∷ []) kind.Number by refl (number_kind ((c ∷ cs) ++ 48 ∷ []) (and_from _ _ parts.0 z)) h
+    ]
 
 ended_text : (m : Mode) (fs : List Frame) (u : List ℕ) → IsByKind m → begins_text u ≡ true → is_some (takes_in m fs kind.Text u) ≡ true → Ended (at_mode m fs) u
 ended_text m fs [] by n h = absurd (false≢true n)
 ended_text m fs (c ∷ cs) by n h =
     let parts = and_parts (c == 39) _ n in
     elim (text_end true cs parts.1) [
-      inl z ↦ ended_by m fs (c ∷ cs) [] (c ∷ cs) kind.Text by (sym (append-nil (c ∷ cs))) (text_kind (c ∷ cs) (and_from _ _ parts.0 z)) h
-    | inr z ↦ ended_by m fs (c ∷ cs) (39 ∷ []) ((c ∷ cs) ++ 39 ∷ []) kind.Text by refl (text_kind ((c ∷ cs) ++ 39 ∷ []) (and_from _ _ parts.0 z)) h ]
+      | inl z ↦ ended_by m fs (c ∷ cs) [] (c ∷ cs) kind.Text by (sym (append-nil (c ∷ cs))) (text_kind (c ∷ cs) (and_from _ _ parts.0 z)) h
+      | inr z ↦ ended_by m fs (c ∷ cs) (39 ∷ []) ((c ∷ cs) ++ 39 ∷ []) kind.Text by refl (text_kind ((c ∷ cs) ++ 39 ∷ []) (and_from _ _ parts.0 z)) h
+    ]
 
 -- a reserved word goes on as a name
 reserved_longer : (u : List ℕ) → is_among reserved u ≡ true → is_plain_name (u ++ codes "x") ≡ true
@@ -304,12 +307,15 @@ ended_any : (m : Mode) (fs : List Frame) (u : List ℕ) → IsByKind m → begin
 ended_any m fs u by h =
     let any : BeginsAny m fs u ≡ true = sym (begins_any m fs u by) ∙ h in
     elim (or_cases _ _ any) [
-      inr z ↦ ended_fixed m fs u by z
-    | inl y ↦ elim (or_cases _ _ y) [
-      inr z ↦ (let parts = and_parts _ _ z in let word = and_parts _ _ parts.0 in ended_name m fs u (is_among reserved u) by refl word.0 word.1 parts.1)
-    | inl x ↦ elim (or_cases _ _ x) [
-      inr z ↦ (let parts = and_parts _ _ z in ended_text m fs u by parts.0 parts.1)
-    | inl z ↦ (let parts = and_parts _ _ z in ended_number m fs u by parts.0 parts.1) ] ] ]
+      | inr z ↦ ended_fixed m fs u by z
+      | inl y ↦ elim (or_cases _ _ y) [
+        | inr z ↦ (let parts = and_parts _ _ z in let word = and_parts _ _ parts.0 in ended_name m fs u (is_among reserved u) by refl word.0 word.1 parts.1)
+        | inl x ↦ elim (or_cases _ _ x) [
+          | inr z ↦ (let parts = and_parts _ _ z in ended_text m fs u by parts.0 parts.1)
+          | inl z ↦ (let parts = and_parts _ _ z in ended_number m fs u by parts.0 parts.1)
+        ]
+      ]
+    ]
 
 ended_digit : (x : Expr) (fs : List Frame) (u : List ℕ) → is_scale u ≡ true → Ended (at_mode (m.Digit x) fs) u
 ended_digit x fs u h = record {

@@ -5,7 +5,6 @@ use Rattle.std.proofs.lemmas.Bool.Decides.{nat_tests}
 use Rattle.std.proofs.lemmas.Str.{IsUtf8-append, IsUtf8-nil, IsUtf8-take, IsUtf8-drop, IsUtf8-from_ascii, IsCharBoundary-before_ascii, IsCharBoundary-after_ascii}
 use Rattle.std.proofs.lemmas.List.{get_or-drop, drop-drop, take-append-drop}
 use Rattle.std.proofs.Math.Seq.{take-append_seam, get_or-append_seam, drop-append-add}
-
 use Rattle.std.specs.List.{list_all}
 use Rattle.std.specs.Str.{IsUtf8, IsAscii}
 use Rattle.tuple_schema.specs.Texts.{is_name_byte, is_name}
@@ -41,9 +40,10 @@ quote_parts front tail u =
     let small : get_or whole at 0 < 128 = omega (arith, byte) in
     let inside : at < length whole = omega (arith, length-append front (39 ∷ tail)) in
     let first : take at whole ≡ front = take-append_seam front (39 ∷ tail) in
-    let last : drop (at + 1) whole ≡ tail = drop-append-add front (39 ∷ tail) 1 in
-    (subst IsUtf8 first (IsUtf8-take whole at u (IsCharBoundary-before_ascii whole at inside small)),
-     subst IsUtf8 last (IsUtf8-drop whole (at + 1) u (IsCharBoundary-after_ascii whole at u inside small)))
+    let last : drop (at + 1) whole ≡ tail = drop-append-add front (39 ∷ tail) 1 in (
+      subst IsUtf8 first (IsUtf8-take whole at u (IsCharBoundary-before_ascii whole at inside small)),
+      subst IsUtf8 last (IsUtf8-drop whole (at + 1) u (IsCharBoundary-after_ascii whole at u inside small)),
+    )
 
 abbrev Keeps : List ℕ → Type 0
 Keeps bs = (front rest : List ℕ) → ends_text true bs ≡ true → IsUtf8 (front ++ (bs ++ rest)) → IsUtf8 (front ++ unquoted true bs)
@@ -78,7 +78,7 @@ said_within text (b ∷ bs) rest start u here h =
     let parts = and_parts (b == 39) (ends_text true bs) h in
     let quote = same_quote b parts.0 in
     let byte : get_or text start 0 ≡ b =
-      ap (λ n. get_or text n 0) (let e : start ≡ start + 0 = omega arith in e) ∙ sym (get_or-drop start text 0 0) ∙ ap (λ xs. get_or xs 0 0) here in
+    ap (λ n. get_or text n 0) (let e : start ≡ start + 0 = omega arith in e) ∙ sym (get_or-drop start text 0 0) ∙ ap (λ xs. get_or xs 0 0) here in
     let small : get_or text start 0 < 128 = omega (arith, byte, quote) in
     let inside : start < length text = let size = ap length here in omega (arith, size, length-drop start text) in
     let after : drop (start + 1) text ≡ bs ++ rest = sym (drop-drop 1 start text) ∙ ap (drop 1) here in

@@ -253,7 +253,7 @@ bad_with at s c cs front rest r place d none large stops p =
     let end = ended_of s u r.first in
     let longer : is_number (u ++ end.tail) ≡ true = digit_token c (cs ++ end.tail) d (taken_token s end.next (u ++ end.tail) end.taken) in
     let mode = operand_at s.mode s.frames c p.digits end.tail end.next (ap (λ v. is_number (v ++ end.tail)) same ∙ longer)
-      (ap (λ v. takes_in s.mode s.frames (kind_of (v ++ end.tail)) (v ++ end.tail)) same ∙ end.taken) in
+    (ap (λ v. takes_in s.mode s.frames (kind_of (v ++ end.tail)) (v ++ end.tail)) same ∙ end.taken) in
     let took = number_taken s.mode s.frames w mode number in
     let t = took.0 in
     let filtered : filter is_digit w ≡ filter is_digit u = rw d (ap (λ v. c ∷ v) (sym p.filtered)) in
@@ -261,18 +261,27 @@ bad_with at s c cs front rest r place d none large stops p =
     let out : beyond true w t ≡ Some what.BadNumber = let big : nat_lt (units w) (2 ^ 63) ≡ false = ap (λ n. nat_lt n (2 ^ 63)) value ∙ large in rw (number, big) refl in
     let sizes : length (front ++ (u ++ rest)) ≡ length front + (length u + length rest) = simp length-append in
     let shorter : length u ≡ length w + 1 = ap length (sym same) ∙ length-append w (46 ∷ []) in
-    let moved : u ++ rest ≡ w ++ 46 ∷ rest = ap (λ v. v ++ rest) (sym same) ∙ append_assoc w (46 ∷ []) rest in
-    (w, number,
-    record {
-      before = r.words;
-      rest = 46 ∷ rest;
-      read = r.onward w [] rest (46 ∷ rest) ([], 46 ∷ rest, refl, moved, token_number w number,
-        pointed_longest c p.digits rest d (λ k. none (ap is_token (sym same) ∙ k)) (subst (λ v. Stops v rest) (sym same) stops), refl);
-      place = omega (arith, sizes, place, shorter);
-      within = begins_within r.words (completed true s r.words r.strictly);
-      goes_on = begins_some (r.words ++ w ∷ []) (completed false t (r.words ++ w ∷ []) (next_holds false s t r.words w r.loosely took.1 (limits_from false w t refl)));
-      beyond = not_within s t w r.words what.BadNumber r.ran took.1 out;
-    })
+    let moved : u ++ rest ≡ w ++ 46 ∷ rest = ap (λ v. v ++ rest) (sym same) ∙ append_assoc w (46 ∷ []) rest in (
+      w,
+      number,
+      record {
+        before = r.words;
+        rest = 46 ∷ rest;
+        read = r.onward w [] rest (46 ∷ rest) (
+          [],
+          46 ∷ rest,
+          refl,
+          moved,
+          token_number w number,
+          pointed_longest c p.digits rest d (λ k. none (ap is_token (sym same) ∙ k)) (subst (λ v. Stops v rest) (sym same) stops),
+          refl,
+        );
+        place = omega (arith, sizes, place, shorter);
+        within = begins_within r.words (completed true s r.words r.strictly);
+        goes_on = begins_some (r.words ++ w ∷ []) (completed false t (r.words ++ w ∷ []) (next_holds false s t r.words w r.loosely took.1 (limits_from false w t refl)));
+        beyond = not_within s t w r.words what.BadNumber r.ran took.1 out;
+      },
+    )
 
 none_token : (s : State) (w : List ℕ) (c : ℕ) (cs : List ℕ) → is_digit c ≡ true → is_number (c ∷ cs) ≡ false → is_token (c ∷ cs) ≡ true → ⊥
 none_token s w c cs d n h = false≢true (sym n ∙ digit_token c cs d h)
@@ -287,8 +296,9 @@ bad_here at s c cs front rest r place bad stops =
     let whole = not_true (is_number u) two.1 in
     let digits = and_parts (is_digit c) _ two.0 in
     elim (pointed cs digits.1) [
-      inl z ↦ absurd (false≢true (sym whole ∙ and_from _ _ digits.0 z))
-    | inr p ↦ bad_with at s c cs front rest r place digits.0 (none_token s u c cs digits.0 whole) large stops p ]
+      | inl z ↦ absurd (false≢true (sym whole ∙ and_from _ _ digits.0 z))
+      | inr p ↦ bad_with at s c cs front rest r place digits.0 (none_token s u c cs digits.0 whole) large stops p
+    ]
 
 -- one byte
 
@@ -341,7 +351,7 @@ none_outcome at s c cs front bs b false bad is stop r place =
 none_outcome at s c cs front bs b true bad is stop r place =
     let w = c ∷ cs in
     let fails : stepped true at s w b ≡ fault (at - length w) what.BadNumber =
-        stepped-past true at s w b stop ∙ ap (λ p. p >>= λ t. begun at t b) (past-bad at s c cs bad is) in
+    stepped-past true at s w b stop ∙ ap (λ p. p >>= λ t. begun at t b) (past-bad at s c cs bad is) in
     subst (Outcome at s w front (b ∷ bs)) (sym (read-fails true at s w b bs (record { at = at - length w; what = what.BadNumber }) fails))
     (bad_here at s c cs front (b ∷ bs) r place bad stop)
 

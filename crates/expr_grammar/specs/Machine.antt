@@ -168,8 +168,8 @@ levels_in _ fs = levels fs
 abbrev pub beyond : Bool → List ℕ → State → Option ExprWhat
 beyond strict w s =
     if strict then (if is_number w then (if nat_lt (units w) (2 ^ 63) then None else Some what.BadNumber)
-      else (if is_text w then (if nat_le (length (said w)) 4096 then None else Some what.BadText)
-      else (if nat_le (levels_in s.mode s.frames) 64 then None else Some what.TooDeep)))
+    else (if is_text w then (if nat_le (length (said w)) 4096 then None else Some what.BadText)
+    else (if nat_le (levels_in s.mode s.frames) 64 then None else Some what.TooDeep)))
     else None
 
 abbrev pub fault : {X : Type 0} → ℕ → ExprWhat → Result X ExprFault

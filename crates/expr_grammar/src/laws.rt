@@ -17,5 +17,4 @@ pub fn expression_laws()
 
     // Each text has one of them.
     ensures either { (text : List ℕ) → ((x : Expr) × IsText text x) ⊎ ((f : ExprFault) × IsFirstFault text f) }
-{
-}
+{}

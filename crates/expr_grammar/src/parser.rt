@@ -150,7 +150,13 @@ fn refused(at: u32, scan: Scan, token: &[u8]) -> ExprFault
 
 // What a token that is neither a number nor a text led to, where it can stand there.
 #[tactic(auto, using(crate::proofs::Past::other_within, crate::proofs::Past::other_deep))]
-fn led(at: u32, next: Option<Mode>, frames: &[Frame], scan: Scan, token: &[u8]) -> Result<Mode, Stop<ExprFault>>
+fn led(
+    at: u32,
+    next: Option<Mode>,
+    frames: &[Frame],
+    scan: Scan,
+    token: &[u8],
+) -> Result<Mode, Stop<ExprFault>>
     requires scanned { scan ≡ scan_of token.now }
     requires number { is_number token.now ≡ false }
     requires text { is_text token.now ≡ false }
@@ -223,7 +229,12 @@ fn past(
 
 // The expression, where the text ends so.
 #[tactic(auto, unfolding(crate::specs::Machine::ended))]
-fn ended(alloc: Global, at: u32, mode: Mode, mut frames: Vec<Frame>) -> Result<Expr, Stop<ExprFault>>
+fn ended(
+    alloc: Global,
+    at: u32,
+    mode: Mode,
+    mut frames: Vec<Frame>,
+) -> Result<Expr, Stop<ExprFault>>
     ensures { Gives result (ended at (at_mode mode (reverse frames.items))) }
 {
     match mode {
@@ -246,7 +257,12 @@ fn ended(alloc: Global, at: u32, mode: Mode, mut frames: Vec<Frame>) -> Result<E
 
 // The state after a byte that goes on with no token, and the token that it begins.
 #[tactic(auto, unfolding(crate::specs::Machine::begun), using(crate::proofs::Ranges::range_one, crate::proofs::Ranges::range_none, crate::proofs::ScanLemmas::scanned_first, crate::proofs::ScanLemmas::scanned_none, crate::proofs::ScanLemmas::scan_one))]
-fn begin(text: &[u8], at: u32, mode: Mode, frames: &[Frame]) -> Result<(Mode, Token), Stop<ExprFault>>
+fn begin(
+    text: &[u8],
+    at: u32,
+    mode: Mode,
+    frames: &[Frame],
+) -> Result<(Mode, Token), Stop<ExprFault>>
     requires inside { at < length text.now }
     requires short { length text.now ≤ 4096 }
     ensures begun { GivesView (λ r. (at_mode r.0 (reverse frames.now), slice_range text.now r.1.start (at + 1))) result
@@ -273,7 +289,13 @@ fn begin(text: &[u8], at: u32, mode: Mode, frames: &[Frame]) -> Result<(Mode, To
 
 // The state after a byte that goes on with a token.
 #[tactic(auto, unfolding(crate::specs::Machine::stepped), using(crate::proofs::Ranges::range_more, crate::proofs::ScanLemmas::scanned_more))]
-fn go_on(text: &[u8], token: Token, at: u32, mode: Mode, frames: &[Frame]) -> Result<(Mode, Token), Stop<ExprFault>>
+fn go_on(
+    text: &[u8],
+    token: Token,
+    at: u32,
+    mode: Mode,
+    frames: &[Frame],
+) -> Result<(Mode, Token), Stop<ExprFault>>
     requires before { token.start ≤ at }
     requires inside { at < length text.now }
     requires scanned { IsScanned token.scan (slice_range text.now token.start at) }
@@ -284,7 +306,12 @@ fn go_on(text: &[u8], token: Token, at: u32, mode: Mode, frames: &[Frame]) -> Re
     ensures scanned { IfOk result (λ r. IsScanned r.1.scan (slice_range text.now r.1.start (at + 1))) }
 {
     let scan = token.scan.next(text[at as usize]);
-    if begins(&mode, frames, scan, &text[token.start as usize..at as usize + 1]) {
+    if begins(
+        &mode,
+        frames,
+        scan,
+        &text[token.start as usize..at as usize + 1],
+    ) {
         return Ok((
             mode,
             Token {
@@ -304,7 +331,10 @@ fn continues(text: &[u8], token: Token, at: u32) -> bool
     requires scanned { IsScanned token.scan (slice_range text.now token.start at) }
     ensures { result ≡ continues (slice_range text.now token.start at) (slice_index text.now at) }
 {
-    token.scan.goes_on(text[at as usize], &text[token.start as usize..at as usize + 1])
+    token.scan.goes_on(
+        text[at as usize],
+        &text[token.start as usize..at as usize + 1],
+    )
 }
 
 // The state after a byte, and the token that it belongs to.

@@ -14,8 +14,8 @@ ghost use Rattle.expr_grammar.specs.declared.state.Kind.{Kind};
 ghost use Rattle.expr_grammar.specs.declared.expr.Operator.{Operator};
 
 use crate::expr::{Expr, Operator};
-use crate::state::{Frame, Function, Kind, Mode};
 use crate::scan::{Scan, is_front};
+use crate::state::{Frame, Function, Kind, Mode};
 use crate::tokens::{column_of, is_scale};
 use sqlite_items::Boxed;
 use std::alloc::Global;
@@ -86,7 +86,11 @@ fn make(alloc: Global, frame: Frame, operand: Expr) -> Result<Expr, Memory>
     ensures { IfOk result (λ x. x ≡ made frame operand) }
 {
     match frame {
-        Frame::Left(op, left) => Ok(Expr::Infix(op, Boxed::new(alloc, left)?, Boxed::new(alloc, operand)?)),
+        Frame::Left(op, left) => Ok(Expr::Infix(
+            op,
+            Boxed::new(alloc, left)?,
+            Boxed::new(alloc, operand)?,
+        )),
         Frame::Not => Ok(Expr::Not(Boxed::new(alloc, operand)?)),
         Frame::Negated => Ok(Expr::Negated(Boxed::new(alloc, operand)?)),
         Frame::Parens => Ok(operand),
@@ -210,7 +214,11 @@ fn take_minus(frames: &mut Vec<Frame>, op: Operator) -> Result<Option<Mode>, Mem
 }
 
 #[tactic(auto, using(crate::proofs::Nones::opening_none))]
-fn take_opening(function: Function, frames: &mut Vec<Frame>, kind: Kind) -> Result<Option<Mode>, Memory>
+fn take_opening(
+    function: Function,
+    frames: &mut Vec<Frame>,
+    kind: Kind,
+) -> Result<Option<Mode>, Memory>
     ensures { IfOk result (λ r. option_map (λ m. at_mode m (reverse frames.new.items)) r ≡ takes_opening function (reverse frames.old.items) kind) }
 {
     match kind {
@@ -254,7 +262,12 @@ fn take_test(
     Ok(Some(Mode::Is(operand)))
 }
 
-fn end_call(alloc: Global, function: Function, frames: &[Frame], operand: Expr) -> Result<Option<Mode>, Memory>
+fn end_call(
+    alloc: Global,
+    function: Function,
+    frames: &[Frame],
+    operand: Expr,
+) -> Result<Option<Mode>, Memory>
     ensures { IfOk result (λ r. option_map (λ m. at_mode m (reverse frames.now)) r ≡ ended_call function operand (reverse frames.now)) }
 {
     let _open = frames;
@@ -276,7 +289,11 @@ fn coalesce(alloc: Global, first: Expr, second: Expr) -> Result<Expr, Memory>
 fn choice(alloc: Global, test: Expr, first: Expr, second: Expr) -> Result<Expr, Memory>
     ensures { IfOk result (λ x. x ≡ e.If test first second) }
 {
-    Ok(Expr::If(Boxed::new(alloc, test)?, Boxed::new(alloc, first)?, Boxed::new(alloc, second)?))
+    Ok(Expr::If(
+        Boxed::new(alloc, test)?,
+        Boxed::new(alloc, first)?,
+        Boxed::new(alloc, second)?,
+    ))
 }
 
 fn close(alloc: Global, frames: &mut Vec<Frame>, operand: Expr) -> Result<Option<Mode>, Memory>
@@ -285,8 +302,14 @@ fn close(alloc: Global, frames: &mut Vec<Frame>, operand: Expr) -> Result<Option
     match frames.pop() {
         Some(Frame::Parens) => Ok(Some(Mode::After(8, operand))),
         Some(Frame::First(function)) => end_call(alloc, function, frames, operand),
-        Some(Frame::CoalesceSecond(first)) => Ok(Some(Mode::After(8, coalesce(alloc, first, operand)?))),
-        Some(Frame::IfThird(test, first)) => Ok(Some(Mode::After(8, choice(alloc, test, first, operand)?))),
+        Some(Frame::CoalesceSecond(first)) => Ok(Some(Mode::After(
+            8,
+            coalesce(alloc, first, operand)?,
+        ))),
+        Some(Frame::IfThird(test, first)) => Ok(Some(Mode::After(
+            8,
+            choice(alloc, test, first, operand)?,
+        ))),
         Some(Frame::IfSecond(_)) => Ok(None),
         Some(Frame::Left(_, _)) => Ok(None),
         Some(Frame::Not) => Ok(None),
@@ -295,7 +318,11 @@ fn close(alloc: Global, frames: &mut Vec<Frame>, operand: Expr) -> Result<Option
     }
 }
 
-fn next_part(function: Function, frames: &mut Vec<Frame>, operand: Expr) -> Result<Option<Mode>, Memory>
+fn next_part(
+    function: Function,
+    frames: &mut Vec<Frame>,
+    operand: Expr,
+) -> Result<Option<Mode>, Memory>
     ensures { IfOk result (λ r. option_map (λ m. at_mode m (reverse frames.new.items)) r ≡ gone_on function operand (reverse frames.old.items)) }
 {
     match function {
@@ -368,14 +395,24 @@ fn none_after(level: u8, operand: Expr, kind: Kind) -> Option<Mode>
     None
 }
 
-fn take_close(alloc: Global, frames: &mut Vec<Frame>, level: u8, operand: Expr) -> Result<Option<Mode>, Memory>
+fn take_close(
+    alloc: Global,
+    frames: &mut Vec<Frame>,
+    level: u8,
+    operand: Expr,
+) -> Result<Option<Mode>, Memory>
     ensures { IfOk result (λ r. option_map (λ m. at_mode m (reverse frames.new.items)) r ≡ takes_after level operand (reverse frames.old.items) Kind.Close) }
 {
     let (_, operand) = reduce(alloc, frames, 1, level, operand)?;
     close(alloc, frames, operand)
 }
 
-fn take_comma(alloc: Global, frames: &mut Vec<Frame>, level: u8, operand: Expr) -> Result<Option<Mode>, Memory>
+fn take_comma(
+    alloc: Global,
+    frames: &mut Vec<Frame>,
+    level: u8,
+    operand: Expr,
+) -> Result<Option<Mode>, Memory>
     ensures { IfOk result (λ r. option_map (λ m. at_mode m (reverse frames.new.items)) r ≡ takes_after level operand (reverse frames.old.items) Kind.Comma) }
 {
     let (_, operand) = reduce(alloc, frames, 1, level, operand)?;
@@ -522,14 +559,78 @@ fn begins_as(mode: &Mode, frames: &[Frame], token: &[u8], kind: Kind, spelling: 
 fn begins_word(mode: &Mode, frames: &[Frame], token: &[u8]) -> bool
     ensures { result ≡ list_any (λ k. is_front token.now (spelling k) && allows mode.now (reverse frames.now) k) fixed_words }
 {
-    begins_as(mode, frames, token, Kind::Is, b"is") || (begins_as(mode, frames, token, Kind::Not, b"not") || (begins_as(mode, frames, token, Kind::Null, b"null") || (begins_as(mode, frames, token, Kind::Call(Function::Abs), b"abs") || (begins_as(mode, frames, token, Kind::Call(Function::Length), b"length") || (begins_as(mode, frames, token, Kind::Call(Function::Scale), b"scale") || (begins_as(mode, frames, token, Kind::Call(Function::Coalesce), b"coalesce") || (begins_as(mode, frames, token, Kind::Call(Function::If), b"if") || (begins_as(mode, frames, token, Kind::Open, b"(") || (begins_as(mode, frames, token, Kind::Close, b")") || (begins_as(mode, frames, token, Kind::Comma, b",")))))))))))
+    begins_as(mode, frames, token, Kind::Is, b"is")
+        || (begins_as(mode, frames, token, Kind::Not, b"not")
+            || (begins_as(mode, frames, token, Kind::Null, b"null")
+                || (begins_as(mode, frames, token, Kind::Call(Function::Abs), b"abs")
+                    || (begins_as(mode, frames, token, Kind::Call(Function::Length), b"length")
+                        || (begins_as(mode, frames, token, Kind::Call(Function::Scale), b"scale")
+                            || (begins_as(
+                                mode,
+                                frames,
+                                token,
+                                Kind::Call(Function::Coalesce),
+                                b"coalesce",
+                            ) || (begins_as(mode, frames, token, Kind::Call(Function::If), b"if")
+                                || (begins_as(mode, frames, token, Kind::Open, b"(")
+                                    || (begins_as(mode, frames, token, Kind::Close, b")")
+                                        || (begins_as(
+                                            mode,
+                                            frames,
+                                            token,
+                                            Kind::Comma,
+                                            b",",
+                                        )))))))))))
 }
 
 // Whether some fixed token that can stand there begins so.
 fn begins_fixed(mode: &Mode, frames: &[Frame], token: &[u8]) -> bool
     ensures { result ≡ list_any (λ k. is_front token.now (spelling k) && allows mode.now (reverse frames.now) k) fixed }
 {
-    begins_as(mode, frames, token, Kind::Infix(Operator::Or), b"or") || (begins_as(mode, frames, token, Kind::Infix(Operator::And), b"and") || (begins_as(mode, frames, token, Kind::Infix(Operator::Equal), b"=") || (begins_as(mode, frames, token, Kind::Infix(Operator::NotEqual), b"<>") || (begins_as(mode, frames, token, Kind::Infix(Operator::Less), b"<") || (begins_as(mode, frames, token, Kind::Infix(Operator::LessOrEqual), b"<=") || (begins_as(mode, frames, token, Kind::Infix(Operator::Greater), b">") || (begins_as(mode, frames, token, Kind::Infix(Operator::GreaterOrEqual), b">=") || (begins_as(mode, frames, token, Kind::Infix(Operator::Plus), b"+") || (begins_as(mode, frames, token, Kind::Infix(Operator::Minus), b"-") || (begins_as(mode, frames, token, Kind::Infix(Operator::Join), b"||") || (begins_as(mode, frames, token, Kind::Infix(Operator::Times), b"*") || (begins_as(mode, frames, token, Kind::Infix(Operator::Over), b"/") || begins_word(mode, frames, token)))))))))))))
+    begins_as(mode, frames, token, Kind::Infix(Operator::Or), b"or")
+        || (begins_as(mode, frames, token, Kind::Infix(Operator::And), b"and")
+            || (begins_as(mode, frames, token, Kind::Infix(Operator::Equal), b"=")
+                || (begins_as(mode, frames, token, Kind::Infix(Operator::NotEqual), b"<>")
+                    || (begins_as(mode, frames, token, Kind::Infix(Operator::Less), b"<")
+                        || (begins_as(
+                            mode,
+                            frames,
+                            token,
+                            Kind::Infix(Operator::LessOrEqual),
+                            b"<=",
+                        ) || (begins_as(mode, frames, token, Kind::Infix(Operator::Greater), b">")
+                            || (begins_as(
+                                mode,
+                                frames,
+                                token,
+                                Kind::Infix(Operator::GreaterOrEqual),
+                                b">=",
+                            ) || (begins_as(mode, frames, token, Kind::Infix(Operator::Plus), b"+")
+                                || (begins_as(
+                                    mode,
+                                    frames,
+                                    token,
+                                    Kind::Infix(Operator::Minus),
+                                    b"-",
+                                ) || (begins_as(
+                                    mode,
+                                    frames,
+                                    token,
+                                    Kind::Infix(Operator::Join),
+                                    b"||",
+                                ) || (begins_as(
+                                    mode,
+                                    frames,
+                                    token,
+                                    Kind::Infix(Operator::Times),
+                                    b"*",
+                                ) || (begins_as(
+                                    mode,
+                                    frames,
+                                    token,
+                                    Kind::Infix(Operator::Over),
+                                    b"/",
+                                ) || begins_word(mode, frames, token)))))))))))))
 }
 
 #[tactic(auto, using(crate::proofs::ScanLemmas::number_begins, crate::proofs::ScanLemmas::text_begins, crate::proofs::ScanLemmas::word_scanned))]

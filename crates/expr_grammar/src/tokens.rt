@@ -22,7 +22,16 @@ fn is_spelt(token: &[u8], spelling: &str) -> bool
 fn is_keyword(token: &[u8]) -> bool
     ensures { result ≡ is_among words token.now }
 {
-    is_spelt(token, "or") || (is_spelt(token, "and") || (is_spelt(token, "not") || (is_spelt(token, "is") || (is_spelt(token, "null") || (is_spelt(token, "abs") || (is_spelt(token, "length") || (is_spelt(token, "scale") || (is_spelt(token, "coalesce") || (is_spelt(token, "if"))))))))))
+    is_spelt(token, "or")
+        || (is_spelt(token, "and")
+            || (is_spelt(token, "not")
+                || (is_spelt(token, "is")
+                    || (is_spelt(token, "null")
+                        || (is_spelt(token, "abs")
+                            || (is_spelt(token, "length")
+                                || (is_spelt(token, "scale")
+                                    || (is_spelt(token, "coalesce")
+                                        || (is_spelt(token, "if"))))))))))
 }
 
 fn is_column(token: &[u8]) -> bool
@@ -138,7 +147,9 @@ fn digits_of(token: &[u8]) -> Option<u64>
     let mut number: u64 = 0;
     for byte in token {
         if is_digit(*byte) {
-            number = number.checked_mul(10)?.checked_add(u64::from(*byte - b'0'))?;
+            number = number
+                .checked_mul(10)?
+                .checked_add(u64::from(*byte - b'0'))?;
         }
     }
     Some(number)

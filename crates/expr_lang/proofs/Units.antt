@@ -53,5 +53,5 @@ pub divided_is : (x y a : ℤ) (q p : ℕ) (r : Meaning) → FitsSigned w64 x �
 divided_is x y a q p r fx fy fa some left made =
     let a_is : a ≡ times_ten x q = left ∙ ap (λ z. times_ten z q) (to_z-of_z w64 x fx) in
     let inner : int_div (wide a) (narrow y) ≡ int_div (times_ten x q) y =
-      ap (λ z. int_div z (narrow y)) (to_z-of_z w128 a fa ∙ a_is) ∙ ap (int_div (times_ten x q)) (to_z-of_z w64 y fy) in
+    ap (λ z. int_div z (narrow y)) (to_z-of_z w128 a fa ∙ a_is) ∙ ap (int_div (times_ten x q)) (to_z-of_z w64 y fy) in
     made ∙ ap (λ z. units_if z p) inner ∙ sym (quotient_is x p y q some)

@@ -99,7 +99,10 @@ pub fn difference(x: Number, y: Number) -> Option<Number>
 pub fn product(x: Number, y: Number) -> Option<Number>
     ensures { seen_number result ≡ times (units x.units x.places) (units y.units y.places) }
 {
-    narrowed(i128::from(x.units) * i128::from(y.units), x.places + y.places)
+    narrowed(
+        i128::from(x.units) * i128::from(y.units),
+        x.places + y.places,
+    )
 }
 
 // A quotient, cut toward zero.

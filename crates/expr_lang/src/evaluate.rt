@@ -7,10 +7,12 @@ ghost use Rattle.expr_lang.specs.Values.{Meaning, units, bytes, truly, meaning, 
 ghost use Rattle.expr_lang.specs.Views.{seen, seen_number, IsShort};
 ghost use Rattle.tuple_schema.specs.Tuples.{IsShort as IsShortValue};
 
-use crate::arithmetic::{absolute, difference, number_of, opposite, product, quotient, rescaled, sum};
-use crate::number::Number;
+use crate::arithmetic::{
+    absolute, difference, number_of, opposite, product, quotient, rescaled, sum,
+};
 use crate::held::{Held, compared};
 use crate::logic::{Truth, decided};
+use crate::number::Number;
 use expr_grammar::{Expr, Operator};
 use std::alloc::Global;
 use tuple_schema::{Column, ColumnKind, FieldRef, Fields, Memory, Schema, Text, Value};
@@ -22,7 +24,9 @@ fn held_in<'a>(kind: ColumnKind, field: FieldRef<'a>) -> Held<'a>
 {
     match (kind, field) {
         (ColumnKind::Int, FieldRef::Int(number)) => Held::of_number(number_of(number, 0)),
-        (ColumnKind::Dec(places), FieldRef::Dec(units)) => Held::of_number(number_of(units, places)),
+        (ColumnKind::Dec(places), FieldRef::Dec(units)) => Held::of_number(number_of(
+            units, places,
+        )),
         (ColumnKind::Text, FieldRef::Text(text)) => Held::Lent(text),
         _ => Held::Null,
     }
@@ -86,7 +90,12 @@ fn followed_by(alloc: Global, left: &Held<'_>, right: &Held<'_>) -> Result<Held<
 }
 
 // What an operator makes of two meanings.
-fn joined_by(alloc: Global, operator: Operator, left: &Held<'_>, right: &Held<'_>) -> Result<Held<'static>, Memory>
+fn joined_by(
+    alloc: Global,
+    operator: Operator,
+    left: &Held<'_>,
+    right: &Held<'_>,
+) -> Result<Held<'static>, Memory>
     requires left { IsShort (seen left.now) }
     requires right { IsShort (seen right.now) }
     ensures seen { IfOk result (λ h. seen h ≡ joined_by operator (seen left.now) (seen right.now)) }

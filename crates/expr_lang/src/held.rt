@@ -4,8 +4,8 @@ ghost use Rattle.expr_lang.specs.Values.{Meaning, nothing, bytes, truly, orderin
 ghost use Rattle.expr_lang.specs.Views.{seen, seen_number, IsShort};
 
 use crate::arithmetic::compare;
-use crate::number::Number;
 use crate::logic::{Truth, decided};
+use crate::number::Number;
 use expr_grammar::Operator;
 use std::alloc::Global;
 use std::cmp::Ordering;

@@ -61,10 +61,19 @@ fn first_unknown<'e>(expr: &'e Expr, columns: &[Column]) -> Option<&'e Text>
 {
     match expr {
         Expr::Column(name) => unknown(columns, name),
-        Expr::Infix(_, a, b) => first_of(first_unknown(a.get(), columns), first_unknown(b.get(), columns)),
-        Expr::Coalesce(a, b) => first_of(first_unknown(a.get(), columns), first_unknown(b.get(), columns)),
+        Expr::Infix(_, a, b) => first_of(
+            first_unknown(a.get(), columns),
+            first_unknown(b.get(), columns),
+        ),
+        Expr::Coalesce(a, b) => first_of(
+            first_unknown(a.get(), columns),
+            first_unknown(b.get(), columns),
+        ),
         Expr::If(c, a, b) => {
-            let first = first_of(first_unknown(c.get(), columns), first_unknown(a.get(), columns));
+            let first = first_of(
+                first_unknown(c.get(), columns),
+                first_unknown(a.get(), columns),
+            );
             first_of(first, first_unknown(b.get(), columns))
         }
         Expr::Not(a) => first_unknown(a.get(), columns),
@@ -195,7 +204,8 @@ fn comparison(left: ExprKind, right: ExprKind) -> Option<ExprKind>
     ensures { result ≡ comparison left right }
 {
     match (left, right) {
-        (ExprKind::Value { kind: k, .. }, ExprKind::Value { kind: l, .. }) if are_comparable(k, l) => Some(ExprKind::Truth),
+        (ExprKind::Value { kind: k, .. }, ExprKind::Value { kind: l, .. })
+            if are_comparable(k, l) => Some(ExprKind::Truth),
         _ => None,
     }
 }
@@ -304,7 +314,9 @@ fn coalesced_kind(first: ExprKind, second: ExprKind) -> Option<ExprKind>
     ensures { result ≡ one_kind (λ n m. m) first second }
 {
     match (first, second) {
-        (ExprKind::Value { kind: k, .. }, ExprKind::Value { kind: l, nullable }) if k == l => Some(ExprKind::Value { kind: k, nullable }),
+        (ExprKind::Value { kind: k, .. }, ExprKind::Value { kind: l, nullable }) if k == l => Some(
+            ExprKind::Value { kind: k, nullable },
+        ),
         _ => None,
     }
 }
@@ -314,7 +326,16 @@ fn branches_kind(first: ExprKind, second: ExprKind) -> Option<ExprKind>
     ensures { result ≡ one_kind ◌||◌ first second }
 {
     match (first, second) {
-        (ExprKind::Value { kind: k, nullable: n }, ExprKind::Value { kind: l, nullable: m }) if k == l => Some(ExprKind::Value {
+        (
+            ExprKind::Value {
+                kind: k,
+                nullable: n,
+            },
+            ExprKind::Value {
+                kind: l,
+                nullable: m,
+            },
+        ) if k == l => Some(ExprKind::Value {
             kind: k,
             nullable: n || m,
         }),

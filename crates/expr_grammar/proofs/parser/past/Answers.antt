@@ -11,5 +11,5 @@ returns-then-is_number c =
     let fs = reverse c.args.frames.now.items in
     let w = c.args.token.now in
     let number : is_number w ≡ true =
-      number_whole w ∙ ap is_whole_number (sym c.requires.scanned) ∙ sym c.is_number.ensures ∙ c.if-is_number.true in
+    number_whole w ∙ ap is_whole_number (sym c.requires.scanned) ∙ sym c.is_number.ensures ∙ c.if-is_number.true in
     given_at _ c.past_number.result _ _ (past_number_is c.args.at (at_mode c.args.mode fs) w number) (c.past_number.ensures fs)

@@ -6,7 +6,7 @@ use Rattle.expr_grammar.proofs.Turns.{turn, turn_fails}
 use Rattle.expr_grammar.proofs.parser.read_all.Goals as goal
 
 pub loop-at-init : goal.loop-at-init
-loop-at-init c = record { before = omega arith; scanned = scanned_none; same = rw c.new-frames.ensures.items refl; }
+loop-at-init c = record { before = omega arith; scanned = scanned_none; same = rw c.new-frames.ensures.items refl }
 
 pub loop-at-preserved : goal.loop-at-preserved
 loop-at-preserved c = record {
