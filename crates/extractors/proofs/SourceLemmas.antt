@@ -26,11 +26,13 @@ use Rattle.extractors.specs.CsvContent.{header_of, in_column, values_from, tuple
 use Rattle.extractors.specs.Readers.{GivesNext}
 use Rattle.extractors.specs.Sources.{SourceOf, good_rows, body_records, file_rows, AreGood, IsChecked, tuple_or_none, good_tuple, IsGoodRecord}
 
-bind_ok : {A B F : Type 0} (r : Result A F) (f : A → Result B F) (y : B) → (r >>= f) ≡ Ok y → (x : A) × (r ≡ Ok x) × (f x ≡ Ok y)
+bind_ok : {A B F : Type 0} (r : Result A F) (f : A → Result B F) (y : B) → (r >>= f) ≡ Ok y
+    → (x : A) × (r ≡ Ok x) × (f x ≡ Ok y)
 bind_ok (Ok x) f y e = (x, refl, e)
 bind_ok (Err d) f y e = absurd cc
 
-needs_ok : {A F : Type 0} (b : Bool) (d : F) (r : Result A F) (y : A) → cond b r (Err d) ≡ Ok y → (b ≡ true) × (r ≡ Ok y)
+needs_ok : {A F : Type 0} (b : Bool) (d : F) (r : Result A F) (y : A) → cond b r (Err d) ≡ Ok y
+    → (b ≡ true) × (r ≡ Ok y)
 needs_ok true d r y e = (refl, e)
 needs_ok false d r y e = absurd cc
 
@@ -49,17 +51,21 @@ in_column_ok at (Ok w) v e = let same : w ≡ v = cc in ap (λ x. Ok x) same
 in_column_ok at (Err f) v e = absurd cc
 
 -- the values of fields, one by one
-record Values (at : ℕ) (c : Column) (cs : List Column) (f : List ℕ) (fs : List (List ℕ)) (vs : List Value) : Type 0 where
+record Values (at : ℕ) (c : Column) (cs : List Column) (f : List ℕ) (fs : List (List ℕ))
+    (vs : List Value) : Type 0 where
   first : Value
   others : List Value
   read : field_value c f ≡ Ok first
   go_on : values_from (at + 1) cs fs ≡ Ok others
   parts : vs ≡ first ∷ others
 
-values_cons : (at : ℕ) (c : Column) (cs : List Column) (f : List ℕ) (fs : List (List ℕ)) (vs : List Value) → values_from at (c ∷ cs) (f ∷ fs) ≡ Ok vs → Values at c cs f fs vs
+values_cons : (at : ℕ) (c : Column) (cs : List Column) (f : List ℕ) (fs : List (List ℕ)) (vs : List Value)
+    → values_from at (c ∷ cs) (f ∷ fs) ≡ Ok vs → Values at c cs f fs vs
 unfolding values_from
 values_cons at c cs f fs vs e =
-    let a = bind_ok (in_column at (field_value c f)) (λ first. values_from (at + 1) cs fs >>= λ others. Ok (first ∷ others)) vs e in
+    let a =
+    bind_ok (in_column at (field_value c f))
+    (λ first. values_from (at + 1) cs fs >>= λ others. Ok (first ∷ others)) vs e in
     let b = bind_ok (values_from (at + 1) cs fs) (λ others. Ok (a.0 ∷ others)) vs a.2 in
     let same : vs ≡ a.0 ∷ b.0 = let is = b.2 in cc in
     record { first = a.0; others = b.0; read = in_column_ok at (field_value c f) a.0 a.1; go_on = b.1; parts = same }
@@ -73,7 +79,8 @@ no_columns : (at : ℕ) (f : List ℕ) (fs : List (List ℕ)) (vs : List Value) 
 unfolding values_from
 no_columns at f fs vs e = cc
 
-values_long : (at : ℕ) (cs : List Column) (fs : List (List ℕ)) (vs : List Value) → values_from at cs fs ≡ Ok vs → (length cs ≡ length vs) × (length fs ≡ length vs)
+values_long : (at : ℕ) (cs : List Column) (fs : List (List ℕ)) (vs : List Value) → values_from at cs fs ≡ Ok vs
+    → (length cs ≡ length vs) × (length fs ≡ length vs)
 values_long at cs [] vs e = let none = values_nil at cs vs e in (rw (none.0, none.1) refl, rw none.1 refl)
 values_long at [] (f ∷ fs) vs e = absurd (no_columns at f fs vs e)
 values_long at (c ∷ cs) (f ∷ fs) vs e =
@@ -81,8 +88,10 @@ values_long at (c ∷ cs) (f ∷ fs) vs e =
     let (columns, fields) = values_long (at + 1) cs fs values.others values.go_on in
     rw values.parts (ap suc columns, ap suc fields)
 
-values_get : (at : ℕ) (cs : List Column) (fs : List (List ℕ)) (vs : List Value) (i : ℕ) (c : Column) (v : Value) → values_from at cs fs ≡ Ok vs → i < length vs → field_value (get_or cs i c) (get_or fs i []) ≡ Ok (get_or vs i v)
-values_get at cs [] vs i c v e below = let none = values_nil at cs vs e in absurd (omega (arith, ap (λ (xs : List Value). length xs) none.1))
+values_get : (at : ℕ) (cs : List Column) (fs : List (List ℕ)) (vs : List Value) (i : ℕ) (c : Column) (v : Value)
+    → values_from at cs fs ≡ Ok vs → i < length vs → field_value (get_or cs i c) (get_or fs i []) ≡ Ok (get_or vs i v)
+values_get at cs [] vs i c v e below =
+    let none = values_nil at cs vs e in absurd (omega (arith, ap (λ (xs : List Value). length xs) none.1))
 values_get at [] (f ∷ fs) vs i c v e below = absurd (no_columns at f fs vs e)
 values_get at (k ∷ ks) (f ∷ fs) vs zero c v e below =
     let values = values_cons at k ks f fs vs e in
@@ -92,14 +101,16 @@ values_get at (k ∷ ks) (f ∷ fs) vs (suc i) c v e below =
     let long : length vs ≡ suc (length values.others) = ap (λ (xs : List Value). length xs) values.parts in
     rw values.parts (values_get (at + 1) ks fs values.others i c v values.go_on (omega arith))
 
-values_fit : (at : ℕ) (cs : List Column) (fs : List (List ℕ)) (vs : List Value) → values_from at cs fs ≡ Ok vs → Fits cs vs
+values_fit : (at : ℕ) (cs : List Column) (fs : List (List ℕ)) (vs : List Value) → values_from at cs fs ≡ Ok vs
+    → Fits cs vs
 values_fit at cs [] vs e = let none = values_nil at cs vs e in rw (none.0, none.1) refl
 values_fit at [] (f ∷ fs) vs e = absurd (no_columns at f fs vs e)
 values_fit at (c ∷ cs) (f ∷ fs) vs e =
     let values = values_cons at c cs f fs vs e in
     rw values.parts (and_from (is_of c.kind c.nullable values.first) (fits cs values.others) (field_is c f values.first values.read).is_of (values_fit (at + 1) cs fs values.others values.go_on))
 
-tuple_values : (cs : List Column) (fs : List (List ℕ)) (tuple : List Value) → tuple_of cs fs ≡ Ok tuple → values_from 1 cs fs ≡ Ok tuple
+tuple_values : (cs : List Column) (fs : List (List ℕ)) (tuple : List Value) → tuple_of cs fs ≡ Ok tuple
+    → values_from 1 cs fs ≡ Ok tuple
 unfolding tuple_of
 tuple_values cs fs tuple e = (needs_ok (eqb (length fs) (length cs)) record_fault.Count (values_from 1 cs fs) tuple e).1
 
@@ -125,10 +136,12 @@ pub record FieldOf (cs : List Column) (fs : List (List ℕ)) (seen : List Value)
   pub scaled : (c : Column) → HasScale (get_or cs i c).kind
   pub read : (c : Column) (f : List ℕ) → field_at fs i ≡ Some f → field_value (get_or cs i c) f ≡ Ok v
 
-pub field_of : (cs : List Column) (fs : List (List ℕ)) (seen : List Value) (i : ℕ) → IsGoodRecord cs fs → good_tuple cs fs ≡ seen → i < length seen → FieldOf cs fs seen i
+pub field_of : (cs : List Column) (fs : List (List ℕ)) (seen : List Value) (i : ℕ) → IsGoodRecord cs fs
+    → good_tuple cs fs ≡ seen → i < length seen → FieldOf cs fs seen i
 field_of cs fs seen i is same below =
     let tuple = has_tuple cs fs is.good in
-    let values : values_from 1 cs fs ≡ Ok seen = tuple_values cs fs (good_tuple cs fs) tuple.read ∙ ap (λ t. Ok t) same in
+    let values : values_from 1 cs fs ≡ Ok seen =
+    tuple_values cs fs (good_tuple cs fs) tuple.read ∙ ap (λ t. Ok t) same in
     let (columns, fields) = values_long 1 cs fs seen values in
     let few = is.schema.few in
     let in_cs : i < length cs = omega arith in
@@ -139,20 +152,24 @@ field_of cs fs seen i is same below =
       in_columns = in_cs;
       in_fields = omega arith;
       scaled = λ c. All-get_or (λ k. HasScale k.kind) cs i c in_cs is.schema.scaled;
-      read = λ c f there. ap (field_value (get_or cs i c)) (sym (field-get fs i f there)) ∙ values_get 1 cs fs seen i c value.Null values below;
+      read = λ c f there. ap (field_value (get_or cs i c)) (sym (field-get fs i f there))
+          ∙ values_get 1 cs fs seen i c value.Null values below;
     }
 
-pub seen_long : (cs : List Column) (fs : List (List ℕ)) (seen : List Value) → IsGoodRecord cs fs → good_tuple cs fs ≡ seen → length cs ≡ length seen
+pub seen_long : (cs : List Column) (fs : List (List ℕ)) (seen : List Value) → IsGoodRecord cs fs
+    → good_tuple cs fs ≡ seen → length cs ≡ length seen
 seen_long cs fs seen is same =
     (values_long 1 cs fs seen (tuple_values cs fs (good_tuple cs fs) (has_tuple cs fs is.good).read ∙ ap (λ t. Ok t) same)).0
 
 -- ---- rows
 
-pub good_cons : (cs : List Column) (r : List (List ℕ)) (rs : List (List (List ℕ))) → IsOk (tuple_of cs r) → good_rows cs (r ∷ rs) ≡ good_tuple cs r ∷ good_rows cs rs
+pub good_cons : (cs : List Column) (r : List (List ℕ)) (rs : List (List (List ℕ))) → IsOk (tuple_of cs r)
+    → good_rows cs (r ∷ rs) ≡ good_tuple cs r ∷ good_rows cs rs
 unfolding good_rows
 good_cons cs r rs is = rw (has_tuple cs r is).read refl
 
-tuple_is : (cs : List Column) (r : List (List ℕ)) (tuple : List Value) → tuple_of cs r ≡ Ok tuple → tuple ≡ good_tuple cs r
+tuple_is : (cs : List Column) (r : List (List ℕ)) (tuple : List Value) → tuple_of cs r ≡ Ok tuple
+    → tuple ≡ good_tuple cs r
 unfolding good_tuple
 tuple_is cs r tuple is = sym (ap tuple_or_none is)
 
@@ -161,15 +178,20 @@ record Checked (cs : List Column) (rs : List (List (List ℕ))) (rows : List (Li
   good : AreGood cs rs
   same : rows ≡ good_rows cs rs
 
-in_row_ok : (row : ℕ) (r : Result (List Value) RecordFault) (tuple : List Value) → in_row row r ≡ Ok tuple → r ≡ Ok tuple
+in_row_ok : (row : ℕ) (r : Result (List Value) RecordFault) (tuple : List Value) → in_row row r ≡ Ok tuple
+    → r ≡ Ok tuple
 in_row_ok row (Ok t) tuple e = let same : t ≡ tuple = cc in ap (λ x. Ok x) same
 in_row_ok row (Err f) tuple e = absurd cc
 
-rows_checked : (row : ℕ) (cs : List Column) (rs : List (List (List ℕ))) (rows : List (List Value)) → tuples_from row cs rs ≡ Ok rows → Checked cs rs rows
+rows_checked : (row : ℕ) (cs : List Column) (rs : List (List (List ℕ))) (rows : List (List Value))
+    → tuples_from row cs rs ≡ Ok rows → Checked cs rs rows
 unfolding tuples_from good_rows
-rows_checked row cs [] rows e = record { good = record { each = All-nil (λ fields. IsOk (tuple_of cs fields)) }; same = let is : rows ≡ [] = cc in is }
+rows_checked row cs [] rows e =
+    record { good = record { each = All-nil (λ fields. IsOk (tuple_of cs fields)) }; same = let is : rows ≡ [] = cc in is }
 rows_checked row cs (r ∷ rs) rows e =
-    let a = bind_ok (in_row row (tuple_of cs r)) (λ first. tuples_from (row + 1) cs rs >>= λ others. Ok (first ∷ others)) rows e in
+    let a =
+    bind_ok (in_row row (tuple_of cs r))
+    (λ first. tuples_from (row + 1) cs rs >>= λ others. Ok (first ∷ others)) rows e in
     let b = bind_ok (tuples_from (row + 1) cs rs) (λ others. Ok (a.0 ∷ others)) rows a.2 in
     let first : tuple_of cs r ≡ Ok a.0 = in_row_ok row (tuple_of cs r) a.0 a.1 in
     let others = rows_checked (row + 1) cs rs b.0 b.1 in
@@ -177,10 +199,13 @@ rows_checked row cs (r ∷ rs) rows e =
     let good : IsOk (tuple_of cs r) = subst (λ (t : Result (List Value) RecordFault). IsOk t) (sym first) refl in
     record {
       good = record { each = All-cons (λ fields. IsOk (tuple_of cs fields)) r rs good others.good.each };
-      same = is ∙ ap (λ ts. a.0 ∷ ts) others.same ∙ ap (λ t. t ∷ good_rows cs rs) (tuple_is cs r a.0 first) ∙ sym (good_cons cs r rs good);
+      same = is ∙ ap (λ ts. a.0 ∷ ts) others.same ∙ ap (λ t. t ∷ good_rows cs rs) (tuple_is cs r a.0 first)
+          ∙ sym (good_cons cs r rs good);
     }
 
-header_then : (any : Bool) (cs : List Column) (header : List (List ℕ)) (records : List (List (List ℕ))) (rows : List (List Value)) → under_header any cs (header ∷ records) ≡ Ok rows → tuples_from 1 cs records ≡ Ok rows
+header_then : (any : Bool) (cs : List Column) (header : List (List ℕ)) (records : List (List (List ℕ)))
+    (rows : List (List Value))
+    → under_header any cs (header ∷ records) ≡ Ok rows → tuples_from 1 cs records ≡ Ok rows
 unfolding under_header
 header_then any cs header records rows e = (bind_ok (header_of any cs header) (λ x. tuples_from 1 cs records) rows e).2
 
@@ -188,7 +213,9 @@ no_header : (any : Bool) (cs : List Column) (rows : List (List Value)) → under
 unfolding under_header
 no_header any cs rows e = cc
 
-under_checked : (any : Bool) (cs : List Column) (records : List (List (List ℕ))) (rows : List (List Value)) → under_header any cs records ≡ Ok rows → (1 ≤ length records) × (AreGood cs (drop 1 records)) × (rows ≡ good_rows cs (drop 1 records))
+under_checked : (any : Bool) (cs : List Column) (records : List (List (List ℕ))) (rows : List (List Value))
+    → under_header any cs records ≡ Ok rows
+    → (1 ≤ length records) × (AreGood cs (drop 1 records)) × (rows ≡ good_rows cs (drop 1 records))
 under_checked any cs [] rows e = absurd (no_header any cs rows e)
 under_checked any cs (header ∷ records) rows e =
     let checked = rows_checked 1 cs records rows (header_then any cs header records rows e) in
@@ -199,7 +226,8 @@ pub record HasContent (any : Bool) (cs : List Column) (file : List ℕ) : Type 0
   pub checked : IsChecked cs file
   pub content : csv_content any cs file ≡ Ok (file_rows cs file)
 
-pub has_content : (any : Bool) (cs : List Column) (file : List ℕ) → tested (csv_content any cs file) ≡ Ok tt → HasContent any cs file
+pub has_content : (any : Bool) (cs : List Column) (file : List ℕ) → tested (csv_content any cs file) ≡ Ok tt
+    → HasContent any cs file
 unfolding csv_content file_rows
 has_content any cs file passes =
     let rows = passed (csv_content any cs file) passes in
@@ -208,9 +236,11 @@ has_content any cs file passes =
 
 -- ---- reading on
 
-pub rest_good : (cs : List Column) (before after : List (List (List ℕ))) (r : List (List ℕ)) → before ≡ r ∷ after → AreGood cs before → IsOk (tuple_of cs r) × AreGood cs after
+pub rest_good : (cs : List Column) (before after : List (List (List ℕ))) (r : List (List ℕ)) → before ≡ r ∷ after
+    → AreGood cs before → IsOk (tuple_of cs r) × AreGood cs after
 rest_good cs before after r next good =
-    let each : All (λ fields. IsOk (tuple_of cs fields)) (r ∷ after) = subst (All (λ fields. IsOk (tuple_of cs fields))) next good.each in
+    let each : All (λ fields. IsOk (tuple_of cs fields)) (r ∷ after) =
+    subst (All (λ fields. IsOk (tuple_of cs fields))) next good.each in
     (All-head (λ fields. IsOk (tuple_of cs fields)) r after each, record { each = All-tail (λ fields. IsOk (tuple_of cs fields)) r after each })
 
 -- one record more was read and packed
@@ -221,10 +251,13 @@ pub record OneRead (cs columns : List Column) (before after : List (List (List �
   pub fit : Fits columns (good_tuple cs r)
   pub rest_fit : All (Fits columns) (good_rows cs after)
 
-pub one_read : (cs columns : List Column) (before after : List (List (List ℕ))) (r : List (List ℕ)) → before ≡ r ∷ after → AreGood cs before → All (Fits columns) (good_rows cs before) → OneRead cs columns before after r
+pub one_read : (cs columns : List Column) (before after : List (List (List ℕ))) (r : List (List ℕ))
+    → before ≡ r ∷ after → AreGood cs before → All (Fits columns) (good_rows cs before)
+    → OneRead cs columns before after r
 one_read cs columns before after r next good fit =
     let (here, rest) = rest_good cs before after r next good in
-    let rows : good_rows cs before ≡ good_tuple cs r ∷ good_rows cs after = ap (good_rows cs) next ∙ good_cons cs r after here in
+    let rows : good_rows cs before ≡ good_tuple cs r ∷ good_rows cs after =
+    ap (good_rows cs) next ∙ good_cons cs r after here in
     let each : All (Fits columns) (good_tuple cs r ∷ good_rows cs after) = subst (All (Fits columns)) rows fit in
     record {
       good = here;
@@ -240,32 +273,47 @@ none_good cs records none = ap (λ rs. filter_map (λ fields. result_ok (tuple_o
 
 -- ---- the whole file
 
-pub no_records : (any : Bool) (cs : List Column) (file : List ℕ) → csv_records (without_mark file) ≡ [] → tested (csv_content any cs file) ≡ Err (fault.BadHeader 1)
+pub no_records : (any : Bool) (cs : List Column) (file : List ℕ) → csv_records (without_mark file) ≡ []
+    → tested (csv_content any cs file) ≡ Err (fault.BadHeader 1)
 unfolding csv_content under_header
 no_records any cs file none = ap (λ rs. tested (under_header any cs rs)) none
 
-under_ok : (any : Bool) (cs : List Column) (header : List (List ℕ)) (records : List (List (List ℕ))) → Ok tt ≡ header_of any cs header → under_header any cs (header ∷ records) ≡ tuples_from 1 cs records
+under_ok : (any : Bool) (cs : List Column) (header : List (List ℕ)) (records : List (List (List ℕ)))
+    → Ok tt ≡ header_of any cs header → under_header any cs (header ∷ records) ≡ tuples_from 1 cs records
 unfolding under_header
 under_ok any cs header records named = ap (λ r. r >>= λ x. tuples_from 1 cs records) (sym named)
 
-under_err : (any : Bool) (cs : List Column) (header : List (List ℕ)) (records : List (List (List ℕ))) (f : CsvFault) → Err f ≡ header_of any cs header → under_header any cs (header ∷ records) ≡ Err f
+under_err : (any : Bool) (cs : List Column) (header : List (List ℕ)) (records : List (List (List ℕ))) (f : CsvFault)
+    → Err f ≡ header_of any cs header → under_header any cs (header ∷ records) ≡ Err f
 unfolding under_header
 under_err any cs header records f wrong = ap (λ r. r >>= λ x. tuples_from 1 cs records) (sym wrong)
 
-pub header_ok : (any : Bool) (cs : List Column) (file : List ℕ) (header : List (List ℕ)) (records : List (List (List ℕ))) → csv_records (without_mark file) ≡ header ∷ records → Ok tt ≡ header_of any cs header → csv_content any cs file ≡ tuples_from 1 cs records
+pub header_ok : (any : Bool) (cs : List Column) (file : List ℕ) (header : List (List ℕ))
+    (records : List (List (List ℕ)))
+    → csv_records (without_mark file) ≡ header ∷ records → Ok tt ≡ header_of any cs header
+    → csv_content any cs file ≡ tuples_from 1 cs records
 unfolding csv_content
 header_ok any cs file header records is named = ap (under_header any cs) is ∙ under_ok any cs header records named
 
-pub header_err : (any : Bool) (cs : List Column) (file : List ℕ) (header : List (List ℕ)) (records : List (List (List ℕ))) (f : CsvFault) → csv_records (without_mark file) ≡ header ∷ records → Err f ≡ header_of any cs header → tested (csv_content any cs file) ≡ Err f
+pub header_err : (any : Bool) (cs : List Column) (file : List ℕ) (header : List (List ℕ))
+    (records : List (List (List ℕ))) (f : CsvFault)
+    → csv_records (without_mark file) ≡ header ∷ records → Err f ≡ header_of any cs header
+    → tested (csv_content any cs file) ≡ Err f
 unfolding csv_content
-header_err any cs file header records f is wrong = ap tested (ap (under_header any cs) is ∙ under_err any cs header records f wrong)
+header_err any cs file header records f is wrong =
+    ap tested (ap (under_header any cs) is ∙ under_err any cs header records f wrong)
 
 -- behind the header
-behind_header : (before after : List (List (List ℕ))) (found : Bool) (fields : List (List ℕ)) → GivesNext before after found fields → 1 ≤ length before → after ≡ drop 1 before
+behind_header : (before after : List (List (List ℕ))) (found : Bool) (fields : List (List ℕ))
+    → GivesNext before after found fields → 1 ≤ length before → after ≡ drop 1 before
 behind_header before after true fields next some = sym (ap (λ rs. drop 1 rs) next)
-behind_header before after false fields next some = absurd (omega (arith, ap (λ (rs : List (List (List ℕ))). length rs) next))
+behind_header before after false fields next some =
+    absurd (omega (arith, ap (λ (rs : List (List (List ℕ))). length rs) next))
 
-pub rows_behind : (cs : List Column) (file : List ℕ) (before after : List (List (List ℕ))) (found : Bool) (fields : List (List ℕ)) → before ≡ csv_records (without_mark file) → IsChecked cs file → GivesNext before after found fields → good_rows cs after ≡ file_rows cs file
+pub rows_behind : (cs : List Column) (file : List ℕ) (before after : List (List (List ℕ))) (found : Bool)
+    (fields : List (List ℕ))
+    → before ≡ csv_records (without_mark file) → IsChecked cs file → GivesNext before after found fields
+    → good_rows cs after ≡ file_rows cs file
 unfolding file_rows
 rows_behind cs file before after found fields all checked next =
     let headed : 1 ≤ length before = rw all checked.headed in
@@ -275,7 +323,8 @@ good_fit : (cs : List Column) (rs : List (List (List ℕ))) → AreGood cs rs �
 good_fit cs [] good = rw (none_good cs [] refl) (All-nil (Fits cs))
 good_fit cs (r ∷ rs) good =
     let (here, rest) = rest_good cs (r ∷ rs) rs r refl good in
-    rw (good_cons cs r rs here) (All-cons (Fits cs) (good_tuple cs r) (good_rows cs rs) (has_tuple cs r here).fit (good_fit cs rs rest))
+    rw (good_cons cs r rs here)
+    (All-cons (Fits cs) (good_tuple cs r) (good_rows cs rs) (has_tuple cs r here).fit (good_fit cs rs rest))
 
 -- the rows of a checked file fit its columns
 pub file_fits : (cs : List Column) (file : List ℕ) → IsChecked cs file → All (Fits cs) (file_rows cs file)
@@ -283,5 +332,8 @@ unfolding file_rows
 file_fits cs file checked = good_fit cs (body_records file) checked.good
 
 -- the same of a source that is seen so
-pub source_fits : (cs : List Column) (file : List ℕ) (seen : SourceOf) → IsChecked cs file → (let source : SourceOf = record { columns = cs; rows = file_rows cs file } in source ≡ seen) → All (Fits seen.columns) seen.rows
-source_fits cs file seen checked same = subst (λ (s : SourceOf). All (Fits s.columns) s.rows) same (file_fits cs file checked)
+pub source_fits : (cs : List Column) (file : List ℕ) (seen : SourceOf) → IsChecked cs file
+    → (let source : SourceOf = record { columns = cs; rows = file_rows cs file } in source ≡ seen)
+    → All (Fits seen.columns) seen.rows
+source_fits cs file seen checked same =
+    subst (λ (s : SourceOf). All (Fits s.columns) s.rows) same (file_fits cs file checked)

@@ -38,7 +38,8 @@ values_from at (c ∷ cs) [] = Err record_fault.Count
 
 -- the tuple of a record: as many fields as columns, whatever they hold, and then a value in each
 unfoldable pub tuple_of : List Column → List (List ℕ) → Result (List Value) RecordFault
-tuple_of columns fields = if length fields == length columns then values_from 1 columns fields else Err record_fault.Count
+tuple_of columns fields =
+    if length fields == length columns then values_from 1 columns fields else Err record_fault.Count
 
 -- the fault of the record of this row
 abbrev pub row_fault : ℕ → RecordFault → CsvFault
@@ -58,7 +59,7 @@ tuples_from row columns (r ∷ rs) = do
   others ← tuples_from (row + 1) columns rs
   Ok (first ∷ others)
 
--- the first record is the header, and rows count from 1 behind it; where there is no record, the header lacks its first name
+-- the first record is the header, behind which rows count from 1; a file of no records has a header of no names
 unfoldable pub under_header : Bool → List Column → List (List (List ℕ)) → Result (List (List Value)) CsvFault
 under_header any columns [] = Err (fault.BadHeader 1)
 under_header any columns (header ∷ records) = do

@@ -18,29 +18,38 @@ use Rattle.row_batch.proofs.Places.{IsBetween, AreEven, between, even_between, l
 
 -- ---- the view
 
-rows_again_before : (cs : List Column) (rows : List (List Value)) (rest : List ℕ) → All (IsRowOf cs) rows → rows_in cs (length rows) (rows_bytes rows ++ rest) ≡ rows
+rows_again_before : (cs : List Column) (rows : List (List Value)) (rest : List ℕ) → All (IsRowOf cs) rows
+    → rows_in cs (length rows) (rows_bytes rows ++ rest) ≡ rows
 unfolding rows_in
 rows_again_before cs [] rest each = refl
 rows_again_before cs (r ∷ rs) rest each =
-    let regrouped : rows_bytes (r ∷ rs) ++ rest ≡ row_bytes r ++ (rows_bytes rs ++ rest) = append_assoc (row_bytes r) (rows_bytes rs) rest in
+    let regrouped : rows_bytes (r ∷ rs) ++ rest ≡ row_bytes r ++ (rows_bytes rs ++ rest) =
+    append_assoc (row_bytes r) (rows_bytes rs) rest in
     ap (λ bs. row_and (rows_in cs (length rs)) (row_at cs bs)) regrouped
-    ∙ ap (row_and (rows_in cs (length rs))) (row_of_again cs r (rows_bytes rs ++ rest) (All-head (IsRowOf cs) r rs each))
+    ∙ ap (row_and (rows_in cs (length rs)))
+    (row_of_again cs r (rows_bytes rs ++ rest) (All-head (IsRowOf cs) r rs each))
     ∙ ap (λ others. r ∷ others) (rows_again_before cs rs rest (All-tail (IsRowOf cs) r rs each))
 
 -- what is packed is seen as its rows
-rows_again : (cs : List Column) (rows : List (List Value)) (count : ℕ) (bytes starts inner : List ℕ) → IsPacked cs rows count bytes starts inner → rows_in cs count bytes ≡ rows
+rows_again : (cs : List Column) (rows : List (List Value)) (count : ℕ) (bytes starts inner : List ℕ)
+    → IsPacked cs rows count bytes starts inner → rows_in cs count bytes ≡ rows
 rows_again cs rows count bytes starts inner is =
-    ap (λ n. rows_in cs n bytes) is.counted ∙ ap (rows_in cs (length rows)) (is.bytes_are ∙ sym (append-nil (rows_bytes rows))) ∙ rows_again_before cs rows [] is.each
+    ap (λ n. rows_in cs n bytes) is.counted
+    ∙ ap (rows_in cs (length rows)) (is.bytes_are ∙ sym (append-nil (rows_bytes rows)))
+    ∙ rows_again_before cs rows [] is.each
 
 pub row_again : (cs : List Column) (row : List Value) → IsRowOf cs row → row_in cs (row_bytes row) ≡ row
 unfolding row_in
-row_again cs row is = ap (λ bs. found_row (row_at cs bs)) (sym (append-nil (row_bytes row))) ∙ ap found_row (row_of_again cs row [] is)
+row_again cs row is =
+    ap (λ bs. found_row (row_at cs bs)) (sym (append-nil (row_bytes row))) ∙ ap found_row (row_of_again cs row [] is)
 
 -- ---- one row
 
-pub row_is : (cs : List Column) (rows : List (List Value)) (i : ℕ) (row : List Value) → All (IsRowOf cs) rows → slice_get rows i ≡ Some row → IsRowOf cs row
+pub row_is : (cs : List Column) (rows : List (List Value)) (i : ℕ) (row : List Value) → All (IsRowOf cs) rows
+    → slice_get rows i ≡ Some row → IsRowOf cs row
 row_is cs [] i row each is = absurd cc
-row_is cs (r ∷ rs) zero row each is = let same : r ≡ row = cc in subst (IsRowOf cs) same (All-head (IsRowOf cs) r rs each)
+row_is cs (r ∷ rs) zero row each is =
+    let same : r ≡ row = cc in subst (IsRowOf cs) same (All-head (IsRowOf cs) r rs each)
 row_is cs (r ∷ rs) (suc i) row each is = row_is cs rs i row (All-tail (IsRowOf cs) r rs each) is
 
 width_is : (cs : List Column) (row : List Value) → IsRowOf cs row → length (value_places row) ≡ length cs + 1
@@ -51,19 +60,23 @@ pub record RowAt (cs : List Column) (row : List Value) (i : ℕ) (bytes starts i
   pub row_is : IsRowOf cs row
   pub below : i < 4096
   pub started : i + 1 < length starts
-  pub outer : (from to : ℕ) → from ≡ get_or starts i from → to ≡ get_or starts (i + 1) to → IsBetween bytes (row_bytes row) from to
+  pub outer : (from to : ℕ) → from ≡ get_or starts i from → to ≡ get_or starts (i + 1) to
+      → IsBetween bytes (row_bytes row) from to
   pub places : IsBetween inner (value_places row) (i * (length cs + 1)) (i * (length cs + 1) + (length cs + 1))
 
-pub row_at_place : (cs : List Column) (rows : List (List Value)) (count : ℕ) (bytes starts inner : List ℕ) (i : ℕ) → IsPacked cs rows count bytes starts inner → i < length rows → RowAt cs (get_or rows i []) i bytes starts inner
+pub row_at_place : (cs : List Column) (rows : List (List Value)) (count : ℕ) (bytes starts inner : List ℕ) (i : ℕ)
+    → IsPacked cs rows count bytes starts inner → i < length rows → RowAt cs (get_or rows i []) i bytes starts inner
 row_at_place cs rows count bytes starts inner i is in_rows =
     let here : slice_get rows i ≡ Some (get_or rows i []) = slice_get-get_or rows i [] in_rows in
-    let even : AreEven value_places (length cs + 1) rows = record { each = λ j row there. width_is cs row (row_is cs rows j row is.each there) } in
+    let even : AreEven value_places (length cs + 1) rows =
+    record { each = λ j row there. width_is cs row (row_is cs rows j row is.each there) } in
     let few = is.few in
     record {
       row_is = row_is cs rows i (get_or rows i []) is.each here;
       below = omega arith;
       started = rw is.starts_are (omega (arith, length-places row_bytes rows));
-      outer = λ from to from_is to_is. between row_bytes rows i (get_or rows i []) bytes starts from to is.bytes_are is.starts_are here from_is to_is;
+      outer = λ from to from_is to_is. between row_bytes rows i
+          (get_or rows i []) bytes starts from to is.bytes_are is.starts_are here from_is to_is;
       places = even_between value_places (length cs + 1) rows i (get_or rows i []) inner is.inner_are even here;
     }
 
@@ -71,7 +84,9 @@ abbrev pub batch_of : List Column → List (List Value) → BatchOf
 batch_of cs rows = record { columns = cs; rows = rows }
 
 -- the same of a batch that is seen so, with its columns
-pub row_seen : (cs : List Column) (rows : List (List Value)) (count : ℕ) (bytes starts inner : List ℕ) (seen : BatchOf) (columns : List Column) (i : ℕ) → IsPacked cs rows count bytes starts inner → batch_of cs rows ≡ seen → columns ≡ cs → i < length seen.rows
+pub row_seen : (cs : List Column) (rows : List (List Value)) (count : ℕ) (bytes starts inner : List ℕ)
+    (seen : BatchOf) (columns : List Column) (i : ℕ)
+    → IsPacked cs rows count bytes starts inner → batch_of cs rows ≡ seen → columns ≡ cs → i < length seen.rows
     → RowAt columns (get_or seen.rows i []) i bytes starts inner
 row_seen cs rows count bytes starts inner seen columns i is seen_is same in_rows =
     let rows_seen : seen.rows ≡ rows = sym (ap (λ (b : BatchOf). b.rows) seen_is) in
@@ -80,19 +95,29 @@ row_seen cs rows count bytes starts inner seen columns i is seen_is same in_rows
     (row_at_place cs rows count bytes starts inner i is (subst (λ (rs : List (List Value)). i < length rs) rows_seen in_rows)))
 
 -- the slices of a view are those of its row
-pub packed_row : (cs : List Column) (row : List Value) (bytes inner : List ℕ) → length cs ≤ 64 → IsRowOf cs row → bytes ≡ row_bytes row → inner ≡ value_places row → (row_in cs bytes ≡ row) × IsPackedRow cs (row_in cs bytes) bytes inner
+pub packed_row : (cs : List Column) (row : List Value) (bytes inner : List ℕ) → length cs ≤ 64 → IsRowOf cs row
+    → bytes ≡ row_bytes row → inner ≡ value_places row
+    → (row_in cs bytes ≡ row) × IsPackedRow cs (row_in cs bytes) bytes inner
 packed_row cs row bytes inner narrow is spelled placed =
     let seen : row_in cs bytes ≡ row = ap (row_in cs) spelled ∙ row_again cs row is in
     (seen, subst (λ r. IsPackedRow cs r bytes inner) (sym seen) (record { narrow = narrow; row_is = is; bytes_are = spelled; inner_are = placed }))
 
-pub view_fits : (cs seen : List Column) (row : List Value) (bytes : List ℕ) → IsRowOf cs row → bytes ≡ row_bytes row → cs ≡ seen → Fits seen (row_in cs bytes)
+pub view_fits : (cs seen : List Column) (row : List Value) (bytes : List ℕ) → IsRowOf cs row → bytes ≡ row_bytes row
+    → cs ≡ seen → Fits seen (row_in cs bytes)
 view_fits cs seen row bytes is spelled same =
-    subst (λ (ks : List Column). Fits ks (row_in cs bytes)) same (subst (Fits cs) (sym (ap (row_in cs) spelled ∙ row_again cs row is)) is.fits)
+    subst (λ (ks : List Column). Fits ks (row_in cs bytes)) same
+    (subst (Fits cs) (sym (ap (row_in cs) spelled ∙ row_again cs row is)) is.fits)
 
 -- ---- one row more
 
-one_more : (cs : List Column) (rows : List (List Value)) (count : ℕ) (bytes starts inner : List ℕ) (row : List Value) → IsPacked cs rows count bytes starts inner → IsRowOf cs row → length rows < 4096
-    → IsPacked cs (rows ++ row ∷ []) (count + 1) (bytes ++ row_bytes row) (starts ++ (length bytes + length (row_bytes row)) ∷ []) (inner ++ value_places row)
+flat_map_push : (form : List Value → List ℕ) (xs : List (List Value)) (x : List Value)
+    → flat_map form (xs ++ x ∷ []) ≡ flat_map form xs ++ form x
+flat_map_push form xs x = flat_map-append form xs (x ∷ []) ∙ ap (λ bs. flat_map form xs ++ bs) (append-nil (form x))
+
+one_more : (cs : List Column) (rows : List (List Value)) (count : ℕ) (bytes starts inner : List ℕ) (row : List Value)
+    → IsPacked cs rows count bytes starts inner → IsRowOf cs row → length rows < 4096
+    → IsPacked cs (rows ++ row ∷ []) (count + 1) (bytes ++ row_bytes row)
+    (starts ++ (length bytes + length (row_bytes row)) ∷ []) (inner ++ value_places row)
 one_more cs rows count bytes starts inner row is row_is below =
     let size : length (rows_bytes rows) ≡ length bytes = ap length (sym is.bytes_are) in
     let longer : length (rows ++ row ∷ []) ≡ length rows + 1 = length-append rows (row ∷ []) in
@@ -101,31 +126,41 @@ one_more cs rows count bytes starts inner row is row_is below =
       counted = let same : count ≡ length rows = is.counted in omega arith;
       each = All-push (IsRowOf cs) rows row is.each row_is;
       bytes_are = ap (λ bs. bs ++ row_bytes row) is.bytes_are ∙ sym (flat_map_push row_bytes rows row);
-      starts_are = ap (λ ps. ps ++ (length bytes + length (row_bytes row)) ∷ []) is.starts_are ∙ ap (λ n. places row_bytes rows ++ (n + length (row_bytes row)) ∷ []) (sym size) ∙ sym (places_push row_bytes rows row);
+      starts_are = ap (λ ps. ps ++ (length bytes + length (row_bytes row)) ∷ []) is.starts_are
+          ∙ ap (λ n. places row_bytes rows ++ (n + length (row_bytes row)) ∷ []) (sym size)
+          ∙ sym (places_push row_bytes rows row);
       inner_are = ap (λ ps. ps ++ value_places row) is.inner_are ∙ sym (flat_map_push value_places rows row);
-    } where
-      flat_map_push : (form : List Value → List ℕ) (xs : List (List Value)) (x : List Value) → flat_map form (xs ++ x ∷ []) ≡ flat_map form xs ++ form x
-      flat_map_push form xs x = flat_map-append form xs (x ∷ []) ∙ ap (λ bs. flat_map form xs ++ bs) (append-nil (form x))
+    }
 
 -- the buffers after one row more, and what they are seen as
-pub record OneMore (cs : List Column) (rows : List (List Value)) (row : List Value) (count : ℕ) (bytes starts inner : List ℕ) : Type 0 where
+pub record OneMore (cs : List Column) (rows : List (List Value)) (row : List Value) (count : ℕ)
+    (bytes starts inner : List ℕ) : Type 0 where
   pub packed : IsPacked cs (rows_in cs count bytes) count bytes starts inner
   pub seen : rows_in cs count bytes ≡ rows ++ row ∷ []
 
-pushed_row : (cs : List Column) (rows : List (List Value)) (count : ℕ) (bytes starts inner : List ℕ) (row : List Value) (size : ℕ) (bytes2 starts2 inner2 : List ℕ) → IsPacked cs rows count bytes starts inner → IsRowOf cs row → length rows < 4096
-    → size ≡ length bytes → bytes2 ≡ bytes ++ row_bytes row → starts2 ≡ starts ++ (size + length (row_bytes row)) ∷ [] → inner2 ≡ inner ++ value_places row → OneMore cs rows row (count + 1) bytes2 starts2 inner2
+pushed_row : (cs : List Column) (rows : List (List Value)) (count : ℕ) (bytes starts inner : List ℕ)
+    (row : List Value) (size : ℕ) (bytes2 starts2 inner2 : List ℕ)
+    → IsPacked cs rows count bytes starts inner → IsRowOf cs row → length rows < 4096
+    → size ≡ length bytes → bytes2 ≡ bytes ++ row_bytes row → starts2 ≡ starts ++ (size + length (row_bytes row)) ∷ []
+    → inner2 ≡ inner ++ value_places row → OneMore cs rows row (count + 1) bytes2 starts2 inner2
 pushed_row cs rows count bytes starts inner row size bytes2 starts2 inner2 is row_is below sized more started placed =
-    let starts_are : starts ++ (length bytes + length (row_bytes row)) ∷ [] ≡ starts2 = ap (λ n. starts ++ (n + length (row_bytes row)) ∷ []) (sym sized) ∙ sym started in
+    let starts_are : starts ++ (length bytes + length (row_bytes row)) ∷ [] ≡ starts2 =
+    ap (λ n. starts ++ (n + length (row_bytes row)) ∷ []) (sym sized) ∙ sym started in
     let packed : IsPacked cs (rows ++ row ∷ []) (count + 1) bytes2 starts2 inner2 =
     subst (λ bs. IsPacked cs (rows ++ row ∷ []) (count + 1) bs starts2 inner2) (sym more)
     (subst (λ ss. IsPacked cs (rows ++ row ∷ []) (count + 1) (bytes ++ row_bytes row) ss inner2) starts_are
     (subst (IsPacked cs (rows ++ row ∷ []) (count + 1) (bytes ++ row_bytes row) (starts ++ (length bytes + length (row_bytes row)) ∷ [])) (sym placed) (one_more cs rows count bytes starts inner row is row_is below))) in
-    let seen : rows_in cs (count + 1) bytes2 ≡ rows ++ row ∷ [] = rows_again cs (rows ++ row ∷ []) (count + 1) bytes2 starts2 inner2 packed in
+    let seen : rows_in cs (count + 1) bytes2 ≡ rows ++ row ∷ [] =
+    rows_again cs (rows ++ row ∷ []) (count + 1) bytes2 starts2 inner2 packed in
     record { packed = subst (λ rs. IsPacked cs rs (count + 1) bytes2 starts2 inner2) (sym seen) packed; seen = seen }
 
 -- the same of a batch that is seen so
-pub pushed_seen : (cs : List Column) (rows : List (List Value)) (count : ℕ) (bytes starts inner : List ℕ) (seen : BatchOf) (row : List Value) (size : ℕ) (bytes2 starts2 inner2 : List ℕ) → IsPacked cs rows count bytes starts inner → batch_of cs rows ≡ seen
-    → Fits seen.columns row → All IsEncodable row → length seen.rows < 4096 → size ≡ length bytes → bytes2 ≡ bytes ++ row_bytes row → starts2 ≡ starts ++ (size + length (row_bytes row)) ∷ [] → inner2 ≡ inner ++ value_places row
+pub pushed_seen : (cs : List Column) (rows : List (List Value)) (count : ℕ) (bytes starts inner : List ℕ)
+    (seen : BatchOf) (row : List Value) (size : ℕ) (bytes2 starts2 inner2 : List ℕ)
+    → IsPacked cs rows count bytes starts inner → batch_of cs rows ≡ seen
+    → Fits seen.columns row → All IsEncodable row → length seen.rows < 4096 → size ≡ length bytes
+    → bytes2 ≡ bytes ++ row_bytes row → starts2 ≡ starts ++ (size + length (row_bytes row)) ∷ []
+    → inner2 ≡ inner ++ value_places row
     → OneMore cs seen.rows row (count + 1) bytes2 starts2 inner2
 pushed_seen cs rows count bytes starts inner seen row size bytes2 starts2 inner2 is seen_is fit encodable below sized more started placed =
     let rows_seen : seen.rows ≡ rows = sym (ap (λ (b : BatchOf). b.rows) seen_is) in

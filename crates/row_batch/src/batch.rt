@@ -32,7 +32,8 @@ impl Model for Batch {
 
     ghost view = { λ b. record { columns = b.schema; rows = rows_in b.schema b.count b.bytes.items } };
 
-    ghost invariant = { λ b. IsPacked b.schema (rows_in b.schema b.count b.bytes.items) b.count b.bytes.items b.starts.items b.places.items };
+    ghost invariant = { λ b. IsPacked b.schema (rows_in b.schema b.count b.bytes.items)
+        b.count b.bytes.items b.starts.items b.places.items };
 }
 
 impl Batch {

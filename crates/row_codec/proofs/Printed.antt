@@ -33,17 +33,20 @@ use Rattle.row_codec.proofs.Sizes.{digits_are, units_parts}
 
 pub last_digits_more : (k n : ℕ) → 0 < k → last_digits k n ≡ last_digits (k - 1) (n / 10) ++ (zero_digit + n % 10) ∷ []
 last_digits_more zero n some = absurd (omega arith)
-last_digits_more (suc k) n some = let same : k ≡ suc k - 1 = omega arith in ap (λ j. last_digits j (n / 10) ++ (zero_digit + n % 10) ∷ []) same
+last_digits_more (suc k) n some =
+    let same : k ≡ suc k - 1 = omega arith in ap (λ j. last_digits j (n / 10) ++ (zero_digit + n % 10) ∷ []) same
 
 last_digits_are : (k n : ℕ) → list_all is_ascii_digit (last_digits k n) ≡ true
 last_digits_are zero n = refl
 last_digits_are (suc k) n =
     let one : list_all is_ascii_digit ((zero_digit + n % 10) ∷ []) ≡ true = grind (arith, nat_tests) in
-    list_all-append is_ascii_digit (last_digits k (n / 10)) ((zero_digit + n % 10) ∷ []) ∙ and_from _ _ (last_digits_are k (n / 10)) one
+    list_all-append is_ascii_digit (last_digits k (n / 10)) ((zero_digit + n % 10) ∷ [])
+    ∙ and_from _ _ (last_digits_are k (n / 10)) one
 
 length-last_digits : (k n : ℕ) → length (last_digits k n) ≡ k
 length-last_digits zero n = refl
-length-last_digits (suc k) n = omega (arith, length-append (last_digits k (n / 10)) ((zero_digit + n % 10) ∷ []), length-last_digits k (n / 10))
+length-last_digits (suc k) n =
+    omega (arith, length-append (last_digits k (n / 10)) ((zero_digit + n % 10) ∷ []), length-last_digits k (n / 10))
 
 pow_suc_front : (k : ℕ) → 10 ^ suc k ≡ 10 * 10 ^ k
 pow_suc_front k = pow-succ' 10 k
@@ -52,9 +55,12 @@ pow_suc_front k = pow-succ' 10 k
 digits_after-last_digits : (k n : ℕ) → digits_after (n / 10 ^ k) (last_digits k n) ≡ n
 digits_after-last_digits zero n = omega arith
 digits_after-last_digits (suc k) n =
-    let front : n / 10 ^ suc k ≡ n / 10 / 10 ^ k = ap (λ m. n / m) (pow_suc_front k) ∙ sym (div-div-eq-div-mul n 10 (10 ^ k)) in
-    let before : digits_after (n / 10 ^ suc k) (last_digits k (n / 10)) ≡ n / 10 = ap (λ w. digits_after w (last_digits k (n / 10))) front ∙ digits_after-last_digits k (n / 10) in
-    fold_push _ (n / 10 ^ suc k) (last_digits k (n / 10)) (zero_digit + n % 10) ∙ ap (λ m. 10 * m + (zero_digit + n % 10 - zero_digit)) before ∙ omega arith
+    let front : n / 10 ^ suc k ≡ n / 10 / 10 ^ k =
+    ap (λ m. n / m) (pow_suc_front k) ∙ sym (div-div-eq-div-mul n 10 (10 ^ k)) in
+    let before : digits_after (n / 10 ^ suc k) (last_digits k (n / 10)) ≡ n / 10 =
+    ap (λ w. digits_after w (last_digits k (n / 10))) front ∙ digits_after-last_digits k (n / 10) in
+    fold_push _ (n / 10 ^ suc k) (last_digits k (n / 10)) (zero_digit + n % 10)
+    ∙ ap (λ m. 10 * m + (zero_digit + n % 10 - zero_digit)) before ∙ omega arith
 
 -- ---- decimals
 
@@ -65,7 +71,8 @@ range_digit : (c : ℕ) → IsInRange 48 57 c → is_ascii_digit c ≡ true
 range_digit c is = grind (arith, nat_tests)
 
 digits_test : IsDigitsTest (λ ds. list_all is_ascii_digit ds ≡ true)
-digits_test = record { empty = refl; parts = λ c cs are. (digit_range c (and_parts (is_ascii_digit c) (list_all is_ascii_digit cs) are).0, (and_parts (is_ascii_digit c) (list_all is_ascii_digit cs) are).1); more = λ c cs range are. and_from _ _ (range_digit c range) are }
+digits_test =
+    record { empty = refl; parts = λ c cs are. (digit_range c (and_parts (is_ascii_digit c) (list_all is_ascii_digit cs) are).0, (and_parts (is_ascii_digit c) (list_all is_ascii_digit cs) are).1); more = λ c cs range are. and_from _ _ (range_digit c range) are }
 
 folds : FoldsDigits digits_after
 folds = record { empty = λ n. refl; more = λ n c cs range. ap (λ m. digits_after (m + (c - 48)) cs) (mul_comm 10 n) }
@@ -88,14 +95,26 @@ natural_again n below =
 units_again : (places n : ℕ) → n < 2 ^ 64 → units_of places (size_text places n) ≡ Ok n
 units_again places n below =
     let whole : n / 10 ^ places < 2 ^ 64 = omega (arith, div-le_self n (10 ^ places)) in
-    let some : 0 < length (decimal (n / 10 ^ places) ++ last_digits places n) = omega (arith, decimal_nonempty (n / 10 ^ places) whole, length-append (decimal (n / 10 ^ places)) (last_digits places n)) in
-    let all : list_all is_ascii_digit (decimal (n / 10 ^ places) ++ last_digits places n) ≡ true = list_all-append is_ascii_digit (decimal (n / 10 ^ places)) (last_digits places n) ∙ and_from _ _ (decimal_are (n / 10 ^ places) whole) (last_digits_are places n) in
-    let are : are_digits (decimal (n / 10 ^ places) ++ last_digits places n) ≡ true = digits_are (decimal (n / 10 ^ places) ++ last_digits places n) some all in
-    let value : digits_value (decimal (n / 10 ^ places) ++ last_digits places n) ≡ n = fold-append _ 0 (decimal (n / 10 ^ places)) (last_digits places n) ∙ ap (λ w. digits_after w (last_digits places n)) (decimal_value (n / 10 ^ places) whole) ∙ digits_after-last_digits places n in
-    let few : ltb places (length (last_digits places n)) ≡ false = le-ltb _ _ (omega (arith, length-last_digits places n)) in
-    let one : 10 ^ (places - length (last_digits places n)) ≡ 1 = let none : places - length (last_digits places n) ≡ 0 = omega (arith, length-last_digits places n) in ap (λ k. 10 ^ k) none in
-    units_parts places (size_text places n) (decimal (n / 10 ^ places)) (point ∷ last_digits places n) [] (last_digits places n) refl (decimal_are (n / 10 ^ places) whole) refl refl
-    ∙ ap (λ (ds : List ℕ). scaled places (ds ++ last_digits places n) (length (last_digits places n))) (append-nil (decimal (n / 10 ^ places)))
+    let some : 0 < length (decimal (n / 10 ^ places) ++ last_digits places n) =
+    omega (arith, decimal_nonempty (n / 10 ^ places) whole, length-append (decimal (n / 10 ^ places)) (last_digits places n)) in
+    let all : list_all is_ascii_digit (decimal (n / 10 ^ places) ++ last_digits places n) ≡ true =
+    list_all-append is_ascii_digit (decimal (n / 10 ^ places)) (last_digits places n)
+    ∙ and_from _ _ (decimal_are (n / 10 ^ places) whole) (last_digits_are places n) in
+    let are : are_digits (decimal (n / 10 ^ places) ++ last_digits places n) ≡ true =
+    digits_are (decimal (n / 10 ^ places) ++ last_digits places n) some all in
+    let value : digits_value (decimal (n / 10 ^ places) ++ last_digits places n) ≡ n =
+    fold-append _ 0 (decimal (n / 10 ^ places)) (last_digits places n)
+    ∙ ap (λ w. digits_after w (last_digits places n)) (decimal_value (n / 10 ^ places) whole)
+    ∙ digits_after-last_digits places n in
+    let few : ltb places (length (last_digits places n)) ≡ false =
+    le-ltb _ _ (omega (arith, length-last_digits places n)) in
+    let one : 10 ^ (places - length (last_digits places n)) ≡ 1 =
+    let none : places - length (last_digits places n) ≡ 0 =
+    omega (arith, length-last_digits places n) in ap (λ k. 10 ^ k) none in
+    units_parts places (size_text places n) (decimal (n / 10 ^ places)) (point ∷ last_digits places n) []
+    (last_digits places n) refl (decimal_are (n / 10 ^ places) whole) refl refl
+    ∙ ap (λ (ds : List ℕ). scaled places (ds ++ last_digits places n) (length (last_digits places n)))
+    (append-nil (decimal (n / 10 ^ places)))
     ∙ rw (are, few, value, one) (ap (λ m. Ok m) (omega arith))
 
 -- ---- signs
@@ -114,11 +133,13 @@ starts_plain (c ∷ cs) rest are some =
     record { plain = no_minus; whole = rw (no_minus, no_plus) refl }
 
 -- a size without a sign, and one behind a minus
-plain_again : (size_of : List ℕ → Result ℕ FieldFault) (text : List ℕ) (n : ℕ) → Unsigned text → size_of text ≡ Ok n → in_range (pos n) ≡ Ok (pos n) → number_of size_of text ≡ Ok (pos n)
+plain_again : (size_of : List ℕ → Result ℕ FieldFault) (text : List ℕ) (n : ℕ) → Unsigned text → size_of text ≡ Ok n
+    → in_range (pos n) ≡ Ok (pos n) → number_of size_of text ≡ Ok (pos n)
 unfolding number_of
 plain_again size_of text n plain size fits = rw (plain.whole, size, plain.plain) fits
 
-minus_again : (size_of : List ℕ → Result ℕ FieldFault) (text : List ℕ) (n : ℕ) → size_of text ≡ Ok (suc n) → in_range (negsuc n) ≡ Ok (negsuc n) → number_of size_of (minus ∷ text) ≡ Ok (negsuc n)
+minus_again : (size_of : List ℕ → Result ℕ FieldFault) (text : List ℕ) (n : ℕ) → size_of text ≡ Ok (suc n)
+    → in_range (negsuc n) ≡ Ok (negsuc n) → number_of size_of (minus ∷ text) ≡ Ok (negsuc n)
 unfolding number_of
 minus_again size_of text n size fits = rw size fits
 
@@ -130,16 +151,21 @@ range_again (negsuc n) fits = let is : is_i64 (negsuc n) ≡ true = grind (arith
 int_again : (n : ℤ) → FitsSigned w64 n → number_of natural_of (signed_decimal n) ≡ Ok n
 int_again (pos n) fits =
     let below : n < 2 ^ 64 = omega arith in
-    let plain : Unsigned (decimal n) = subst Unsigned (append-nil (decimal n)) (starts_plain (decimal n) [] (decimal_are n below) (decimal_nonempty n below)) in
+    let plain : Unsigned (decimal n) =
+    subst Unsigned (append-nil (decimal n))
+    (starts_plain (decimal n) [] (decimal_are n below) (decimal_nonempty n below)) in
     plain_again natural_of (decimal n) n plain (natural_again n below) (range_again (pos n) fits)
-int_again (negsuc n) fits = minus_again natural_of (decimal (suc n)) n (natural_again (suc n) (omega arith)) (range_again (negsuc n) fits)
+int_again (negsuc n) fits =
+    minus_again natural_of (decimal (suc n)) n (natural_again (suc n) (omega arith)) (range_again (negsuc n) fits)
 
 dec_again : (places : ℕ) (n : ℤ) → FitsSigned w64 n → number_of (units_of places) (units_text places n) ≡ Ok n
 dec_again places (pos n) fits =
     let below : n < 2 ^ 64 = omega arith in
     let whole : n / 10 ^ places < 2 ^ 64 = omega (arith, div-le_self n (10 ^ places)) in
     plain_again (units_of places) (size_text places n) n (starts_plain (decimal (n / 10 ^ places)) (point ∷ last_digits places n) (decimal_are _ whole) (decimal_nonempty _ whole)) (units_again places n below) (range_again (pos n) fits)
-dec_again places (negsuc n) fits = minus_again (units_of places) (size_text places (suc n)) n (units_again places (suc n) (omega arith)) (range_again (negsuc n) fits)
+dec_again places (negsuc n) fits =
+    minus_again (units_of places) (size_text places (suc n)) n (units_again places (suc n) (omega arith))
+    (range_again (negsuc n) fits)
 
 -- ---- fields
 
@@ -163,19 +189,22 @@ units_some : (places : ℕ) (n : ℤ) → 0 < length (units_text places n)
 units_some places (pos n) = omega (arith, length-append (decimal (n / 10 ^ places)) (point ∷ last_digits places n))
 units_some places (negsuc n) = omega arith
 
-int_field : (k : ColumnKind) (nullable : Bool) (n : ℤ) → is_of k nullable (value.Int n) ≡ true → FitsSigned w64 n → value_of k (signed_decimal n) ≡ Ok (value.Int n)
+int_field : (k : ColumnKind) (nullable : Bool) (n : ℤ) → is_of k nullable (value.Int n) ≡ true → FitsSigned w64 n
+    → value_of k (signed_decimal n) ≡ Ok (value.Int n)
 unfolding value_of
 int_field kind.Int nullable n of fits = rw (int_again n fits) refl
 int_field (kind.Dec places) nullable n of fits = absurd cc
 int_field kind.Text nullable n of fits = absurd cc
 
-dec_field : (k : ColumnKind) (nullable : Bool) (n : ℤ) → is_of k nullable (value.Dec n) ≡ true → FitsSigned w64 n → value_of k (units_text (places_of k) n) ≡ Ok (value.Dec n)
+dec_field : (k : ColumnKind) (nullable : Bool) (n : ℤ) → is_of k nullable (value.Dec n) ≡ true → FitsSigned w64 n
+    → value_of k (units_text (places_of k) n) ≡ Ok (value.Dec n)
 unfolding value_of
 dec_field kind.Int nullable n of fits = absurd cc
 dec_field (kind.Dec places) nullable n of fits = rw (dec_again places n fits) refl
 dec_field kind.Text nullable n of fits = absurd cc
 
-text_field : (k : ColumnKind) (nullable : Bool) (text : List ℕ) → is_of k nullable (value.Text text) ≡ true → IsUtf8 text → length text ≤ 4096 → value_of k text ≡ Ok (value.Text text)
+text_field : (k : ColumnKind) (nullable : Bool) (text : List ℕ) → is_of k nullable (value.Text text) ≡ true
+    → IsUtf8 text → length text ≤ 4096 → value_of k text ≡ Ok (value.Text text)
 unfolding value_of
 text_field kind.Int nullable text of utf8 short = absurd cc
 text_field (kind.Dec places) nullable text of utf8 short = absurd cc
@@ -185,20 +214,29 @@ null_field : (column : Column) → column.nullable ≡ true → field_value colu
 unfolding field_value
 null_field column is = rw is refl
 
-empty_of : (k : ColumnKind) (nullable : Bool) → is_of k nullable (value.Text []) ≡ true → cond nullable (Ok value.Null) (empty_value k) ≡ Ok (cond nullable value.Null (value.Text []))
+empty_of : (k : ColumnKind) (nullable : Bool) → is_of k nullable (value.Text []) ≡ true
+    → cond nullable (Ok value.Null) (empty_value k) ≡ Ok (cond nullable value.Null (value.Text []))
 empty_of kind.Int nullable of = absurd cc
 empty_of (kind.Dec places) nullable of = absurd cc
 empty_of kind.Text true of = refl
 empty_of kind.Text false of = refl
 
-empty_field : (column : Column) → is_of column.kind column.nullable (value.Text []) ≡ true → field_value column [] ≡ Ok (cond column.nullable value.Null (value.Text []))
+empty_field : (column : Column) → is_of column.kind column.nullable (value.Text []) ≡ true
+    → field_value column [] ≡ Ok (cond column.nullable value.Null (value.Text []))
 unfolding field_value
 empty_field column of = empty_of column.kind column.nullable of
 
 -- a printed value is read again
-pub field_again : (column : Column) (v : Value) → is_of column.kind column.nullable v ≡ true → IsEncodable v → field_value column (field_text column.kind v) ≡ Ok (reread column.nullable v)
+pub field_again : (column : Column) (v : Value) → is_of column.kind column.nullable v ≡ true → IsEncodable v
+    → field_value column (field_text column.kind v) ≡ Ok (reread column.nullable v)
 field_again column value.Null of encodable = null_field column of
-field_again column (value.Int n) of encodable = field_some column (signed_decimal n) (signed_some n encodable) ∙ int_field column.kind column.nullable n of encodable
-field_again column (value.Dec n) of encodable = field_some column (units_text (places_of column.kind) n) (units_some (places_of column.kind) n) ∙ dec_field column.kind column.nullable n of encodable
+field_again column (value.Int n) of encodable =
+    field_some column (signed_decimal n) (signed_some n encodable)
+    ∙ int_field column.kind column.nullable n of encodable
+field_again column (value.Dec n) of encodable =
+    field_some column (units_text (places_of column.kind) n) (units_some (places_of column.kind) n)
+    ∙ dec_field column.kind column.nullable n of encodable
 field_again column (value.Text []) of encodable = empty_field column of
-field_again column (value.Text (c ∷ cs)) of encodable = field_some column (c ∷ cs) (omega arith) ∙ text_field column.kind column.nullable (c ∷ cs) of encodable.0 encodable.1
+field_again column (value.Text (c ∷ cs)) of encodable =
+    field_some column (c ∷ cs) (omega arith)
+    ∙ text_field column.kind column.nullable (c ∷ cs) of encodable.0 encodable.1

@@ -20,7 +20,8 @@ range_capped : (b : Bool) (n : ℕ) → in_range (signed b (capped n)) ≡ in_ra
 range_capped b n =
     elim (cases_lt n (2 ^ 64)) [
       | inl lt ↦ let same : capped n ≡ n = omega arith in ap (λ k. in_range (signed b k)) same
-      | inr le ↦ out (signed b (capped n)) (far b (capped n) (omega arith)) ∙ sym (out (signed b n) (far b n (omega arith)))
+      | inr le ↦ out (signed b (capped n)) (far b (capped n) (omega arith))
+          ∙ sym (out (signed b n) (far b n (omega arith)))
     ]
 
 -- a sign and a size that was read
@@ -32,10 +33,13 @@ unfolding with_sign
 sized b (Ok n) read is = sym (ap (with_sign b) is ∙ range_capped b n)
 sized b (Err f) read is = sym (ap (with_sign b) is)
 
-pub number_ok : (size_of : List ℕ → Result ℕ FieldFault) (text : List ℕ) (n : ℕ) → Ok n ≡ capped_size (size_of (without_sign text)) → number_of size_of text ≡ in_range (signed (is_negative text) n)
+pub number_ok : (size_of : List ℕ → Result ℕ FieldFault) (text : List ℕ) (n : ℕ)
+    → Ok n ≡ capped_size (size_of (without_sign text))
+    → number_of size_of text ≡ in_range (signed (is_negative text) n)
 unfolding number_of with_sign
 number_ok size_of text n is = sized (is_negative text) (size_of (without_sign text)) (Ok n) is
 
-pub number_err : (size_of : List ℕ → Result ℕ FieldFault) (text : List ℕ) (f : FieldFault) → Err f ≡ capped_size (size_of (without_sign text)) → number_of size_of text ≡ Err f
+pub number_err : (size_of : List ℕ → Result ℕ FieldFault) (text : List ℕ) (f : FieldFault)
+    → Err f ≡ capped_size (size_of (without_sign text)) → number_of size_of text ≡ Err f
 unfolding number_of with_sign
 number_err size_of text f is = sized (is_negative text) (size_of (without_sign text)) (Err f) is

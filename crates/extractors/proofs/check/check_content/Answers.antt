@@ -16,12 +16,14 @@ check_rows-requires-clause-few c =
 pub returns-then-not-branch : goal.returns-then-not-branch
 returns-then-not-branch c =
     let none = rw c.if-not-branch.true at c.in_ok-next_record.ensures.next in
-    no_records c.args.any_header c.args.schema.now c.args.file.now (ap csv_records (sym c.without_mark.ensures) ∙ sym c.reader_over-reader.ensures.all ∙ none)
+    no_records c.args.any_header c.args.schema.now c.args.file.now
+    (ap csv_records (sym c.without_mark.ensures) ∙ sym c.reader_over-reader.ensures.all ∙ none)
 
 pub returns-in-Ok : goal.returns-in-Ok
 returns-in-Ok c =
     let next = rw c.if-not-branch.false at c.in_ok-next_record.ensures.next in
-    let content = header_ok c.args.any_header c.columns-columns.result.now c.args.file.now _ _ (ap csv_records (sym c.without_mark.ensures) ∙ sym c.reader_over-reader.ensures.all ∙ next) c.in-Ok.ensures in
+    let content =
+    header_ok c.args.any_header c.columns-columns.result.now c.args.file.now _ _ (ap csv_records (sym c.without_mark.ensures) ∙ sym c.reader_over-reader.ensures.all ∙ next) c.in-Ok.ensures in
     rw (← c.columns-columns.ensures.same, content) c.check_rows.ensures
 
 pub returns : goal.returns

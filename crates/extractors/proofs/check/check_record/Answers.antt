@@ -23,7 +23,8 @@ returns-in-Err c =
 pub loop-i-preserved : goal.loop-i-preserved
 loop-i-preserved c =
     let there : c.loop-i.i < length (fields_of c.args.fields.now) = omega arith in
-    tested_more _ _ _ c.index-columns-i.result _ c.loop-i-test.true there c.index-columns-i.is (sym c.in-Some.ensures.value) c.in-Ok.ensures c.loop-i.invariant
+    tested_more _ _ _ c.index-columns-i.result _ c.loop-i-test.true there c.index-columns-i.is
+    (sym c.in-Some.ensures.value) c.in-Ok.ensures c.loop-i.invariant
 
 pub returns : goal.returns
 returns c =

@@ -12,7 +12,8 @@ pub overflow_sub-result : goal.overflow_sub-result
 overflow_sub-result c = (row_skips _ _ _ (are_bytes _ c.type_inv.bytes) c.in_ok-rest.ensures).leaves.shorter
 
 pub returns-clause-size : goal.returns-clause-size
-returns-clause-size c = rw (← c.columns.ensures.same) (sym (row_skips _ _ _ (are_bytes _ c.type_inv.bytes) c.in_ok-rest.ensures).size)
+returns-clause-size c =
+    rw (← c.columns.ensures.same) (sym (row_skips _ _ _ (are_bytes _ c.type_inv.bytes) c.in_ok-rest.ensures).size)
 
 pub returns-clause-row : goal.returns-clause-row
 returns-clause-row c =

@@ -4,7 +4,9 @@ use Rattle.row_codec.proofs.ReadingLoop.{skips_on, skip_ends, skip_done}
 use Rattle.row_codec.proofs.decode.skip_values.Goals as goal
 
 pub loop-column-preserved : goal.loop-column-preserved
-loop-column-preserved c = skips_on _ _ _ _ _ _ _ c.loop-column-test.true c.column-item.is (sym c.in_ok-after.ensures.value) c.loop-column.invariant
+loop-column-preserved c =
+    skips_on _ _ _ _ _ _ _ c.loop-column-test.true c.column-item.is
+    (sym c.in_ok-after.ensures.value) c.loop-column.invariant
 
 pub returns : goal.returns
 returns c = sym (skip_done _ _ _ _ c.loop-column-test.false c.loop-column.invariant)

@@ -8,7 +8,8 @@ pub returns-then-is_empty : goal.returns-then-is_empty
 returns-then-is_empty c =
     elim c.then-is_empty.branch [
       | then-is_empty-via-then-is_empty w ↦ sym (natural_empty c.args.text.now (grind (arith, nat_tests)))
-      | then-is_empty-via-else-is_empty+then-not-is_empty w ↦ sym (natural_other _ _ _ c.take_digits-size.ensures (grind (arith, nat_tests)))
+      | then-is_empty-via-else-is_empty+then-not-is_empty w ↦ sym
+          (natural_other _ _ _ c.take_digits-size.ensures (grind (arith, nat_tests)))
     ]
 
 pub returns : goal.returns

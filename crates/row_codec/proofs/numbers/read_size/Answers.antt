@@ -18,22 +18,26 @@ returns-then-first-ne46 c =
       | then-first-ne46-via-then-first-ne46 w ↦
           sym (units_other c.args.places c.args.text.now _ _ c.in-Some.first.now c.in-Some.fraction.now c.take_digits-whole.ensures c.in-Some.ensures.cases.0 (grind (arith, nat_tests)))
       | then-first-ne46-via-else-first-ne46+then-text-eq1 w ↦
-          let p = pointed c.args.text.now _ c.in-Some.fraction.now _ c.in-Some.first.now c.take_digits-whole.ensures c.in-Some.ensures.cases.0 (omega arith) in
+          let p =
+          pointed c.args.text.now _ c.in-Some.fraction.now _ c.in-Some.first.now c.take_digits-whole.ensures c.in-Some.ensures.cases.0 (omega arith) in
           sym (units_alone c.args.places c.args.text.now c.in-Some.fraction.now c.take_digits-whole.result.0 p (omega arith))
       | then-first-ne46-via-else-first-ne46+else-text-eq1+then-not-is_empty w ↦
-          let p = pointed c.args.text.now _ c.in-Some.fraction.now _ c.in-Some.first.now c.take_digits-whole.ensures c.in-Some.ensures.cases.0 (omega arith) in
+          let p =
+          pointed c.args.text.now _ c.in-Some.fraction.now _ c.in-Some.first.now c.take_digits-whole.ensures c.in-Some.ensures.cases.0 (omega arith) in
           sym (units_more c.args.places c.args.text.now c.in-Some.fraction.now _ _ _ p c.take_digits-size.ensures (grind (arith, nat_tests)))
     ]
 
 pub returns-then-fraction-from : goal.returns-then-fraction-from
 returns-then-fraction-from c =
-    let p = pointed c.args.text.now _ c.in-Some.fraction.now _ c.in-Some.first.now c.take_digits-whole.ensures c.in-Some.ensures.cases.0 c.if-first-ne46.false in
+    let p =
+    pointed c.args.text.now _ c.in-Some.fraction.now _ c.in-Some.first.now c.take_digits-whole.ensures c.in-Some.ensures.cases.0 c.if-first-ne46.false in
     let over : length c.take_digits-size.result.1.now ≡ 0 = grind (arith, nat_tests) in
     sym (units_too_many c.args.places c.args.text.now c.in-Some.fraction.now _ _ _ p c.take_digits-size.ensures (omega arith) over (omega arith))
 
 pub returns : goal.returns
 returns c =
-    let p = pointed c.args.text.now _ c.in-Some.fraction.now _ c.in-Some.first.now c.take_digits-whole.ensures c.in-Some.ensures.cases.0 c.if-first-ne46.false in
+    let p =
+    pointed c.args.text.now _ c.in-Some.fraction.now _ c.in-Some.first.now c.take_digits-whole.ensures c.in-Some.ensures.cases.0 c.if-first-ne46.false in
     let over : length c.take_digits-size.result.1.now ≡ 0 = grind (arith, nat_tests) in
     ap (λ n. Ok n) c.saturating_mul-2.ensures
     ∙ sym (units_are c.args.places c.args.text.now c.in-Some.fraction.now _ _ _ c.power_of_ten-2.result p c.take_digits-size.ensures (omega arith) over (omega arith) c.power_of_ten-2.ensures.value)

@@ -8,10 +8,15 @@ use Rattle.row_codec.proofs.numbers.read_units.Goals as goal
 pub returns-in_err-size : goal.returns-in_err-size
 returns-in_err-size c =
     let p = err_from_is_err_and c.from_residual.result c.from_residual.ensures.1 in
-    let fault = c.in_err-size.ensures ∙ ap (λ text. capped_size (units_of c.args.places text)) c.split_sign-is_negative.ensures.rest in
+    let fault =
+    c.in_err-size.ensures
+    ∙ ap (λ text. capped_size (units_of c.args.places text)) c.split_sign-is_negative.ensures.rest in
     rw (p.1, p.2) (sym (number_err (units_of c.args.places) c.args.text.now c.in_err-size.field-0.0 fault))
 
 pub returns : goal.returns
 returns c =
-    let size = c.in_ok-size.ensures ∙ ap (λ text. capped_size (units_of c.args.places text)) c.split_sign-is_negative.ensures.rest in
-    c.in_range.ensures ∙ ap (λ b. in_range (signed b c.in_ok-size.size)) c.split_sign-is_negative.ensures.negative ∙ sym (number_ok (units_of c.args.places) c.args.text.now c.in_ok-size.size size)
+    let size =
+    c.in_ok-size.ensures
+    ∙ ap (λ text. capped_size (units_of c.args.places text)) c.split_sign-is_negative.ensures.rest in
+    c.in_range.ensures ∙ ap (λ b. in_range (signed b c.in_ok-size.size)) c.split_sign-is_negative.ensures.negative
+    ∙ sym (number_ok (units_of c.args.places) c.args.text.now c.in_ok-size.size size)

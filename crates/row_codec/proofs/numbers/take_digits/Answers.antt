@@ -18,5 +18,6 @@ returns-then-not-is_ascii_digit c = record {
   parts = split_here c.args.text.now c.loop-i.i;
   are = c.loop-i.invariant.digits;
   value = c.loop-i.invariant.value;
-  stops = stops_here c.args.text.now c.loop-i.i c.loop-i-test.true (sym c.is_ascii_digit.ensures.value ∙ c.if-not-is_ascii_digit.true);
+  stops = stops_here c.args.text.now c.loop-i.i c.loop-i-test.true
+      (sym c.is_ascii_digit.ensures.value ∙ c.if-not-is_ascii_digit.true);
 }

@@ -26,13 +26,17 @@ lend_field-requires c =
 pub unreachable-requires-in-Err : goal.unreachable-requires-in-Err
 unreachable-requires-in-Err c =
     let at = field_of _ _ _ _ c.self.invariant c.self.view_is c.requires in
-    let read = ap (λ k. field_value k c.in-Some.field.now) c.index-columns-i.is ∙ at.read c.index-columns-i.result c.in-Some.field.now (sym c.in-Some.ensures.value) in
+    let read =
+    ap (λ k. field_value k c.in-Some.field.now) c.index-columns-i.is
+    ∙ at.read c.index-columns-i.result c.in-Some.field.now (sym c.in-Some.ensures.value) in
     let refused = c.in-Err.ensures.value in
     cc (read, refused)
 
 pub returns-clause-value : goal.returns-clause-value
 returns-clause-value c =
     let at = field_of _ _ _ _ c.self.invariant c.self.view_is c.requires in
-    let read = ap (λ k. field_value k c.in-Some.field.now) c.index-columns-i.is ∙ at.read c.index-columns-i.result c.in-Some.field.now (sym c.in-Some.ensures.value) in
+    let read =
+    ap (λ k. field_value k c.in-Some.field.now) c.index-columns-i.is
+    ∙ at.read c.index-columns-i.result c.in-Some.field.now (sym c.in-Some.ensures.value) in
     let given = c.in-Ok.ensures.value in
     at.here ∙ cc (read, given)

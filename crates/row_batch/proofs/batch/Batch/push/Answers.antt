@@ -6,7 +6,8 @@ use Rattle.row_batch.proofs.batch.Batch.push.Goals as goal
 
 pub append_row-requires-clause-all : goal.append_row-requires-clause-all
 append_row-requires-clause-all g c =
-    ap length (c.columns-width.ensures.same ∙ ap (λ (b : BatchOf). b.columns) c.self.view_is) ∙ fits_long _ _ c.requires.fits
+    ap length (c.columns-width.ensures.same ∙ ap (λ (b : BatchOf). b.columns) c.self.view_is)
+    ∙ fits_long _ _ c.requires.fits
 
 pub invariant_of-self : goal.invariant_of-self
 invariant_of-self g c =

@@ -47,8 +47,11 @@ pub invariant_of-result : goal.invariant_of-result
 invariant_of-result c =
     let at = row_seen _ _ _ _ _ _ _ _ _ c.self.invariant c.self.view_is c.columns-columns.ensures.same c.requires in
     let outer = at.outer _ _ c.index-from.ensures c.index-to.ensures in
-    let bytes = ap (λ bs. slice_range bs c.index-from.result.now c.index-to.result.now) c.deref.ensures.value ∙ outer.cut in
-    let places = ap (λ ps. slice_range ps (c.args.i * (length c.columns-columns.result.now + 1)) (c.args.i * (length c.columns-columns.result.now + 1) + (length c.columns-columns.result.now + 1))) c.deref-2.ensures.value ∙ at.places.cut in
+    let bytes =
+    ap (λ bs. slice_range bs c.index-from.result.now c.index-to.result.now) c.deref.ensures.value ∙ outer.cut in
+    let places =
+    ap (λ ps. slice_range ps (c.args.i * (length c.columns-columns.result.now + 1)) (c.args.i * (length c.columns-columns.result.now + 1) + (length c.columns-columns.result.now + 1))) c.deref-2.ensures.value
+    ∙ at.places.cut in
     let few = c.columns-columns.ensures.schema.few in
     (packed_row _ _ _ _ (rw c.columns-columns.ensures.same few) at.row_is bytes places).1
 
@@ -56,15 +59,20 @@ pub returns-clause-row : goal.returns-clause-row
 returns-clause-row c =
     let at = row_seen _ _ _ _ _ _ _ _ _ c.self.invariant c.self.view_is c.columns-columns.ensures.same c.requires in
     let outer = at.outer _ _ c.index-from.ensures c.index-to.ensures in
-    let bytes = ap (λ bs. slice_range bs c.index-from.result.now c.index-to.result.now) c.deref.ensures.value ∙ outer.cut in
-    let places = ap (λ ps. slice_range ps (c.args.i * (length c.columns-columns.result.now + 1)) (c.args.i * (length c.columns-columns.result.now + 1) + (length c.columns-columns.result.now + 1))) c.deref-2.ensures.value ∙ at.places.cut in
+    let bytes =
+    ap (λ bs. slice_range bs c.index-from.result.now c.index-to.result.now) c.deref.ensures.value ∙ outer.cut in
+    let places =
+    ap (λ ps. slice_range ps (c.args.i * (length c.columns-columns.result.now + 1)) (c.args.i * (length c.columns-columns.result.now + 1) + (length c.columns-columns.result.now + 1))) c.deref-2.ensures.value
+    ∙ at.places.cut in
     let few = c.columns-columns.ensures.schema.few in
-    slice_get-get_or c.args.self.now.rows c.args.i _ c.requires ∙ ap (λ r. Some r) (sym (packed_row _ _ _ _ (rw c.columns-columns.ensures.same few) at.row_is bytes places).0)
+    slice_get-get_or c.args.self.now.rows c.args.i _ c.requires
+    ∙ ap (λ r. Some r) (sym (packed_row _ _ _ _ (rw c.columns-columns.ensures.same few) at.row_is bytes places).0)
 
 pub returns-clause-fits : goal.returns-clause-fits
 returns-clause-fits c =
     let at = row_seen _ _ _ _ _ _ _ _ _ c.self.invariant c.self.view_is c.columns-columns.ensures.same c.requires in
     let outer = at.outer _ _ c.index-from.ensures c.index-to.ensures in
-    let bytes = ap (λ bs. slice_range bs c.index-from.result.now c.index-to.result.now) c.deref.ensures.value ∙ outer.cut in
+    let bytes =
+    ap (λ bs. slice_range bs c.index-from.result.now c.index-to.result.now) c.deref.ensures.value ∙ outer.cut in
     let columns = c.columns-columns.ensures.same ∙ ap (λ (b : BatchOf). b.columns) c.self.view_is in
     view_fits _ _ _ _ at.row_is bytes columns

@@ -10,7 +10,8 @@ returns-then-cols-count c =
 
 pub returns-then-not-is_same : goal.returns-then-not-is_same
 returns-then-not-is_same c =
-    let differs : lent c.field.result ≢ lent c.field-in-loop-i.result = λ same. let t = c.is_same.ensures.1 same in cc in
+    let differs : lent c.field.result ≢ lent c.field-in-loop-i.result =
+    λ same. let t = c.is_same.ensures.1 same in cc in
     ((λ t. absurd cc), λ same. absurd (parts_differ c.args.self.now c.args.key.now c.args.cols.now c.loop-i.i _ _ _ c.requires c.loop-i-test.true refl c.field.ensures.value c.field-in-loop-i.ensures.value differs same))
 
 pub loop-i-preserved : goal.loop-i-preserved
