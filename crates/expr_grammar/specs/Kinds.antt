@@ -18,8 +18,10 @@ fixed_words =
 
 abbrev pub fixed : List Kind
 fixed =
-    kind.Infix op.Or ∷ kind.Infix op.And ∷ kind.Infix op.Equal ∷ kind.Infix op.NotEqual ∷ kind.Infix op.Less ∷ kind.Infix op.LessOrEqual
-    ∷ kind.Infix op.Greater ∷ kind.Infix op.GreaterOrEqual ∷ kind.Infix op.Plus ∷ kind.Infix op.Minus ∷ kind.Infix op.Join ∷ kind.Infix op.Times
+    kind.Infix op.Or ∷ kind.Infix op.And ∷ kind.Infix op.Equal ∷ kind.Infix op.NotEqual ∷ kind.Infix op.Less
+    ∷ kind.Infix op.LessOrEqual
+    ∷ kind.Infix op.Greater ∷ kind.Infix op.GreaterOrEqual ∷ kind.Infix op.Plus ∷ kind.Infix op.Minus
+    ∷ kind.Infix op.Join ∷ kind.Infix op.Times
     ∷ kind.Infix op.Over ∷ fixed_words
 
 abbrev pub word_of : Function → List ℕ
@@ -48,7 +50,8 @@ kind_among (k ∷ ks) w = if bytes_eq w (spelling k) then k else kind_among ks w
 -- the words of the language, and the words that name nothing
 abbrev pub reserved : List (List ℕ)
 reserved =
-    codes "or" ∷ codes "and" ∷ codes "not" ∷ codes "is" ∷ codes "null" ∷ codes "abs" ∷ codes "length" ∷ codes "scale" ∷ codes "coalesce" ∷ codes "if"
+    codes "or" ∷ codes "and" ∷ codes "not" ∷ codes "is" ∷ codes "null" ∷ codes "abs" ∷ codes "length" ∷ codes "scale"
+    ∷ codes "coalesce" ∷ codes "if"
     ∷ codes "table" ∷ codes "none" ∷ []
 
 -- a word of 1 to 40 bytes that isn't reserved, which is a column
@@ -64,7 +67,8 @@ kind_of w =
 -- some number begins with the first digit and these bytes
 abbrev pub goes_number : List ℕ → Bool
 goes_number [] = true
-goes_number (b ∷ bs) = if is_digit b then goes_number bs else ((b == 46) && list_all is_digit bs && nat_le (length bs) 6)
+goes_number (b ∷ bs) = if is_digit b then goes_number bs else
+    ((b == 46) && list_all is_digit bs && nat_le (length bs) 6)
 
 abbrev pub begins_number : List ℕ → Bool
 begins_number [] = false

@@ -61,7 +61,8 @@ pub record Reduced : Type 0 where
 -- an operand joined with what binds at least so tightly on its left; least isn't 0
 abbrev pub reduce : List Frame → ℕ → ℕ → Expr → Reduced
 reduce [] least l x = record { level = l; expr = x; frames = [] }
-reduce (g ∷ gs) least l x = if nat_le least (rank g) then reduce gs least (rank g) (made g x) else record { level = l; expr = x; frames = g ∷ gs }
+reduce (g ∷ gs) least l x = if nat_le least (rank g) then reduce gs least (rank g) (made g x)
+    else record { level = l; expr = x; frames = g ∷ gs }
 
 -- an operator after the operand
 abbrev pub with_operator : Operator → Reduced → Option State
@@ -184,7 +185,8 @@ abbrev pub is_bad_already : Bool → List ℕ → Bool
 is_bad_already strict w = strict && begins_number w && not (is_number w) && not (nat_lt (units w) (2 ^ 63))
 
 abbrev pub led : Bool → ℕ → List ℕ → Option State → Result State ExprFault
-led strict at w None = if is_bad_already strict w then fault (at - length w) what.BadNumber else fault at what.Unexpected
+led strict at w None = if is_bad_already strict w then fault (at - length w) what.BadNumber
+    else fault at what.Unexpected
 led strict at w (Some s) = judged (at - length w) s (beyond strict w s)
 
 -- the state once a token that ends at this place is taken, if there is one

@@ -37,7 +37,8 @@ sign op.Join = codes "||"
 sign op.Times = codes "*"
 sign op.Over = codes "/"
 
--- how tightly an operator binds: 1 or, 2 and, 3 not, 4 comparisons and `is null`, 5 sums, 6 products, 7 minus, 8 what needs no parentheses
+-- how tightly an operator binds: 1 or, 2 and, 3 not, 4 comparisons and `is null`, 5 sums, 6 products, 7 minus, 8 what
+-- needs no parentheses
 abbrev pub level_of : Operator → ℕ
 level_of op.Or = 1
 level_of op.And = 2

@@ -55,7 +55,8 @@ said (b ∷ bs) = unquoted true bs
 
 abbrev pub symbols : List (List ℕ)
 symbols =
-    codes "=" ∷ codes "<>" ∷ codes "<" ∷ codes "<=" ∷ codes ">" ∷ codes ">=" ∷ codes "+" ∷ codes "-" ∷ codes "||" ∷ codes "*" ∷ codes "/"
+    codes "=" ∷ codes "<>" ∷ codes "<" ∷ codes "<=" ∷ codes ">" ∷ codes ">=" ∷ codes "+" ∷ codes "-" ∷ codes "||"
+    ∷ codes "*" ∷ codes "/"
     ∷ codes "(" ∷ codes ")" ∷ codes "," ∷ []
 
 abbrev pub is_token : List ℕ → Bool
@@ -64,7 +65,8 @@ is_token w = is_word w || is_number w || is_text w || is_among symbols w
 -- the words of the language
 abbrev pub words : List (List ℕ)
 words =
-    codes "or" ∷ codes "and" ∷ codes "not" ∷ codes "is" ∷ codes "null" ∷ codes "abs" ∷ codes "length" ∷ codes "scale" ∷ codes "coalesce" ∷ codes "if" ∷ []
+    codes "or" ∷ codes "and" ∷ codes "not" ∷ codes "is" ∷ codes "null" ∷ codes "abs" ∷ codes "length" ∷ codes "scale"
+    ∷ codes "coalesce" ∷ codes "if" ∷ []
 
 -- a column: a name that is no word of the language
 abbrev pub is_column : List ℕ → Bool

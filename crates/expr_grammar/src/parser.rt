@@ -75,7 +75,8 @@ fn past_number(at: u32, mode: Mode, scan: Scan, token: &[u8]) -> Result<Mode, St
     requires scanned { scan ≡ scan_of token.now }
     requires number { is_number token.now ≡ true }
     requires inside { length token.now ≤ at }
-    ensures { (fs : List Frame) → GivesView (λ m. at_mode m fs) result (led true at token.now (takes_in mode fs Kind.Number token.now)) }
+    ensures { (fs : List Frame) → GivesView (λ m. at_mode m fs) result
+        (led true at token.now (takes_in mode fs Kind.Number token.now)) }
 {
     match mode {
         Mode::Operand => match units_of(token) {
@@ -103,7 +104,8 @@ fn past_number(at: u32, mode: Mode, scan: Scan, token: &[u8]) -> Result<Mode, St
 // The state after a number that stands for a scale.
 fn past_digit(at: u32, operand: Expr, token: &[u8]) -> Result<Mode, Stop<ExprFault>>
     requires number { is_number token.now ≡ true }
-    ensures { (fs : List Frame) → GivesView (λ m. at_mode m fs) result (led true at token.now (takes_in (Mode.Digit operand) fs Kind.Number token.now)) }
+    ensures { (fs : List Frame) → GivesView (λ m. at_mode m fs) result
+        (led true at token.now (takes_in (Mode.Digit operand) fs Kind.Number token.now)) }
 {
     match take_digit(operand, token) {
         Some(mode) => Ok(mode),
@@ -117,7 +119,8 @@ fn past_text(alloc: Global, at: u32, mode: Mode, token: &[u8]) -> Result<Mode, S
     requires text { is_text token.now ≡ true }
     requires utf8 { IsUtf8 (said token.now) }
     requires short { length token.now ≤ 4096 }
-    ensures { (fs : List Frame) → GivesView (λ m. at_mode m fs) result (led true at token.now (takes_in mode fs Kind.Text token.now)) }
+    ensures { (fs : List Frame) → GivesView (λ m. at_mode m fs) result
+        (led true at token.now (takes_in mode fs Kind.Text token.now)) }
 {
     match mode {
         Mode::Operand => Ok(Mode::After(8, Expr::Text(said(alloc, token)?))),
@@ -300,8 +303,13 @@ fn go_on(
     requires inside { at < length text.now }
     requires scanned { IsScanned token.scan (slice_range text.now token.start at) }
     requires goes_on { continues (slice_range text.now token.start at) (slice_index text.now at) ≡ true }
-    ensures stepped { GivesView (λ r. (at_mode r.0 (reverse frames.now), slice_range text.now r.1.start (at + 1))) result
-        (stepped true at (at_mode mode (reverse frames.now)) (slice_range text.now token.start at) (slice_index text.now at)) }
+    ensures stepped { GivesView (λ r. (
+      at_mode r.0 (reverse frames.now),
+      slice_range text.now r.1.start
+          (at + 1),
+    )) result
+        (stepped true at (at_mode mode (reverse frames.now)) (slice_range text.now token.start at)
+        (slice_index text.now at)) }
     ensures within { IfOk result (λ r. r.1.start ≤ at + 1) }
     ensures scanned { IfOk result (λ r. IsScanned r.1.scan (slice_range text.now r.1.start (at + 1))) }
 {
@@ -352,8 +360,13 @@ fn step(
     requires inside { at < length text.now }
     requires short { length text.now ≤ 4096 }
     requires scanned { IsScanned token.scan (slice_range text.now token.start at) }
-    ensures stepped { GivesView (λ r. (at_mode r.0 (reverse frames.new.items), slice_range text.now r.1.start (at + 1))) result
-        (stepped true at (at_mode mode (reverse frames.old.items)) (slice_range text.now token.start at) (slice_index text.now at)) }
+    ensures stepped { GivesView (λ r. (
+      at_mode r.0 (reverse frames.new.items),
+      slice_range text.now r.1.start
+          (at + 1),
+    )) result
+        (stepped true at (at_mode mode (reverse frames.old.items)) (slice_range text.now token.start at)
+        (slice_index text.now at)) }
     ensures within { IfOk result (λ r. r.1.start ≤ at + 1) }
     ensures scanned { IfOk result (λ r. IsScanned r.1.scan (slice_range text.now r.1.start (at + 1))) }
 {
@@ -399,7 +412,8 @@ fn finish(
     requires before { token.start ≤ length text.now }
     requires scanned { IsScanned token.scan (slice_range text.now token.start (length text.now)) }
     ensures { Gives result
-        (read true (length text.now) (at_mode mode (reverse frames.items)) (slice_range text.now token.start (length text.now)) []) }
+        (read true (length text.now) (at_mode mode (reverse frames.items))
+        (slice_range text.now token.start (length text.now)) []) }
 {
     let end = text.len();
     let whole = &text[token.start as usize..end];

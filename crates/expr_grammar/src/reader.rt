@@ -162,7 +162,8 @@ fn take_operand(
     requires number { kind ≢ Kind.Number }
     requires text { kind ≢ Kind.Text }
     requires named { kind ≡ Kind.Name → is_column token.now ≡ true }
-    ensures { IfOk result (λ r. option_map (λ m. at_mode m (reverse frames.new.items)) r ≡ takes_operand (reverse frames.old.items) kind token.now) }
+    ensures { IfOk result (λ r. option_map (λ m. at_mode m (reverse frames.new.items)) r
+        ≡ takes_operand (reverse frames.old.items) kind token.now) }
 {
     match kind {
         Kind::Name => Ok(Some(Mode::After(8, Expr::Column(column_of(alloc, token)?)))),
@@ -191,7 +192,8 @@ fn take_operand(
 
 // A minus before an operand.
 fn take_minus(frames: &mut Vec<Frame>, op: Operator) -> Result<Option<Mode>, Memory>
-    ensures { (w : List ℕ) → IfOk result (λ r. option_map (λ m. at_mode m (reverse frames.new.items)) r ≡ takes_operand (reverse frames.old.items) (Kind.Infix op) w) }
+    ensures { (w : List ℕ) → IfOk result (λ r. option_map (λ m. at_mode m (reverse frames.new.items)) r
+        ≡ takes_operand (reverse frames.old.items) (Kind.Infix op) w) }
 {
     match op {
         Operator::Minus => {
@@ -219,7 +221,8 @@ fn take_opening(
     frames: &mut Vec<Frame>,
     kind: Kind,
 ) -> Result<Option<Mode>, Memory>
-    ensures { IfOk result (λ r. option_map (λ m. at_mode m (reverse frames.new.items)) r ≡ takes_opening function (reverse frames.old.items) kind) }
+    ensures { IfOk result (λ r. option_map (λ m. at_mode m (reverse frames.new.items)) r
+        ≡ takes_opening function (reverse frames.old.items) kind) }
 {
     match kind {
         Kind::Open => {
@@ -237,7 +240,8 @@ fn take_operator(
     operand: Expr,
     op: Operator,
 ) -> Result<Option<Mode>, Memory>
-    ensures { IfOk result (λ r. option_map (λ m. at_mode m (reverse frames.new.items)) r ≡ with_operator op (reduce (reverse frames.old.items) (level_of op) level operand)) }
+    ensures { IfOk result (λ r. option_map (λ m. at_mode m (reverse frames.new.items)) r
+        ≡ with_operator op (reduce (reverse frames.old.items) (level_of op) level operand)) }
 {
     let (level, left) = reduce(alloc, frames, level_of(op), level, operand)?;
     if level < left_of(op) {
@@ -253,7 +257,8 @@ fn take_test(
     level: u8,
     operand: Expr,
 ) -> Result<Option<Mode>, Memory>
-    ensures { IfOk result (λ r. option_map (λ m. at_mode m (reverse frames.new.items)) r ≡ with_is (reduce (reverse frames.old.items) 4 level operand)) }
+    ensures { IfOk result (λ r. option_map (λ m. at_mode m (reverse frames.new.items)) r
+        ≡ with_is (reduce (reverse frames.old.items) 4 level operand)) }
 {
     let (level, operand) = reduce(alloc, frames, 4, level, operand)?;
     if level < 5 {
@@ -268,7 +273,8 @@ fn end_call(
     frames: &[Frame],
     operand: Expr,
 ) -> Result<Option<Mode>, Memory>
-    ensures { IfOk result (λ r. option_map (λ m. at_mode m (reverse frames.now)) r ≡ ended_call function operand (reverse frames.now)) }
+    ensures { IfOk result (λ r. option_map (λ m. at_mode m (reverse frames.now)) r
+        ≡ ended_call function operand (reverse frames.now)) }
 {
     let _open = frames;
     match function {
@@ -297,7 +303,8 @@ fn choice(alloc: Global, test: Expr, first: Expr, second: Expr) -> Result<Expr, 
 }
 
 fn close(alloc: Global, frames: &mut Vec<Frame>, operand: Expr) -> Result<Option<Mode>, Memory>
-    ensures { IfOk result (λ r. option_map (λ m. at_mode m (reverse frames.new.items)) r ≡ closed_in operand (reverse frames.old.items)) }
+    ensures { IfOk result (λ r. option_map (λ m. at_mode m (reverse frames.new.items)) r
+        ≡ closed_in operand (reverse frames.old.items)) }
 {
     match frames.pop() {
         Some(Frame::Parens) => Ok(Some(Mode::After(8, operand))),
@@ -323,7 +330,8 @@ fn next_part(
     frames: &mut Vec<Frame>,
     operand: Expr,
 ) -> Result<Option<Mode>, Memory>
-    ensures { IfOk result (λ r. option_map (λ m. at_mode m (reverse frames.new.items)) r ≡ gone_on function operand (reverse frames.old.items)) }
+    ensures { IfOk result (λ r. option_map (λ m. at_mode m (reverse frames.new.items)) r
+        ≡ gone_on function operand (reverse frames.old.items)) }
 {
     match function {
         Function::Scale => Ok(Some(Mode::Digit(operand))),
@@ -341,7 +349,8 @@ fn next_part(
 }
 
 fn part(frames: &mut Vec<Frame>, operand: Expr) -> Result<Option<Mode>, Memory>
-    ensures { IfOk result (λ r. option_map (λ m. at_mode m (reverse frames.new.items)) r ≡ parted_in operand (reverse frames.old.items)) }
+    ensures { IfOk result (λ r. option_map (λ m. at_mode m (reverse frames.new.items)) r
+        ≡ parted_in operand (reverse frames.old.items)) }
 {
     match frames.pop() {
         Some(frame) => part_after(frame, frames, operand),
@@ -352,7 +361,8 @@ fn part(frames: &mut Vec<Frame>, operand: Expr) -> Result<Option<Mode>, Memory>
 // A comma after an operand in a frame.
 #[tactic(auto, using(crate::proofs::Nones::parted_none))]
 fn part_after(frame: Frame, frames: &mut Vec<Frame>, operand: Expr) -> Result<Option<Mode>, Memory>
-    ensures { IfOk result (λ r. option_map (λ m. at_mode m (reverse frames.new.items)) r ≡ parted_by frame operand (reverse frames.old.items)) }
+    ensures { IfOk result (λ r. option_map (λ m. at_mode m (reverse frames.new.items)) r
+        ≡ parted_by frame operand (reverse frames.old.items)) }
 {
     match frame {
         Frame::First(function) => next_part(function, frames, operand),
@@ -371,7 +381,8 @@ fn take_after(
     operand: Expr,
     kind: Kind,
 ) -> Result<Option<Mode>, Memory>
-    ensures { IfOk result (λ r. option_map (λ m. at_mode m (reverse frames.new.items)) r ≡ takes_after level operand (reverse frames.old.items) kind) }
+    ensures { IfOk result (λ r. option_map (λ m. at_mode m (reverse frames.new.items)) r
+        ≡ takes_after level operand (reverse frames.old.items) kind) }
 {
     match kind {
         Kind::Infix(op) => take_operator(alloc, frames, level, operand, op),
@@ -401,7 +412,8 @@ fn take_close(
     level: u8,
     operand: Expr,
 ) -> Result<Option<Mode>, Memory>
-    ensures { IfOk result (λ r. option_map (λ m. at_mode m (reverse frames.new.items)) r ≡ takes_after level operand (reverse frames.old.items) Kind.Close) }
+    ensures { IfOk result (λ r. option_map (λ m. at_mode m (reverse frames.new.items)) r
+        ≡ takes_after level operand (reverse frames.old.items) Kind.Close) }
 {
     let (_, operand) = reduce(alloc, frames, 1, level, operand)?;
     close(alloc, frames, operand)
@@ -413,7 +425,8 @@ fn take_comma(
     level: u8,
     operand: Expr,
 ) -> Result<Option<Mode>, Memory>
-    ensures { IfOk result (λ r. option_map (λ m. at_mode m (reverse frames.new.items)) r ≡ takes_after level operand (reverse frames.old.items) Kind.Comma) }
+    ensures { IfOk result (λ r. option_map (λ m. at_mode m (reverse frames.new.items)) r
+        ≡ takes_after level operand (reverse frames.old.items) Kind.Comma) }
 {
     let (_, operand) = reduce(alloc, frames, 1, level, operand)?;
     part(frames, operand)
@@ -442,7 +455,8 @@ fn take_is_not(alloc: Global, operand: Expr, kind: Kind) -> Result<Option<Mode>,
 
 #[tactic(auto, using(crate::proofs::Nones::scaled_none))]
 fn take_scaled(alloc: Global, operand: Expr, digit: u8, kind: Kind) -> Result<Option<Mode>, Memory>
-    ensures { (fs : List Frame) → IfOk result (λ r. option_map (λ m. at_mode m fs) r ≡ takes_scaled operand digit fs kind) }
+    ensures { (fs : List Frame) → IfOk result (λ r. option_map (λ m. at_mode m fs) r
+        ≡ takes_scaled operand digit fs kind) }
 {
     match kind {
         Kind::Close => Ok(Some(Mode::After(8, Expr::Scale(Boxed::new(alloc, operand)?, digit)))),
@@ -557,7 +571,8 @@ fn begins_as(mode: &Mode, frames: &[Frame], token: &[u8], kind: Kind, spelling: 
 }
 
 fn begins_word(mode: &Mode, frames: &[Frame], token: &[u8]) -> bool
-    ensures { result ≡ list_any (λ k. is_front token.now (spelling k) && allows mode.now (reverse frames.now) k) fixed_words }
+    ensures { result ≡ list_any (λ k. is_front token.now (spelling k)
+        && allows mode.now (reverse frames.now) k) fixed_words }
 {
     begins_as(mode, frames, token, Kind::Is, b"is")
         || (begins_as(mode, frames, token, Kind::Not, b"not")
@@ -679,7 +694,8 @@ pub fn take(
     requires number { kind ≢ Kind.Number }
     requires text { kind ≢ Kind.Text }
     requires named { kind ≡ Kind.Name → is_column token.now ≡ true }
-    ensures { IfOk result (λ r. option_map (λ m. at_mode m (reverse frames.new.items)) r ≡ takes_in mode (reverse frames.old.items) kind token.now) }
+    ensures { IfOk result (λ r. option_map (λ m. at_mode m (reverse frames.new.items)) r
+        ≡ takes_in mode (reverse frames.old.items) kind token.now) }
 {
     match mode {
         Mode::Operand => take_operand(alloc, frames, kind, token),
@@ -694,7 +710,8 @@ pub fn take(
 
 // A digit, 0 to 6, that is a token by itself.
 pub fn take_digit(operand: Expr, token: &[u8]) -> Option<Mode>
-    ensures { (fs : List Frame) (k : Kind) → option_map (λ m. at_mode m fs) result ≡ takes_in (Mode.Digit operand) fs k token.now }
+    ensures { (fs : List Frame) (k : Kind) → option_map (λ m. at_mode m fs) result
+        ≡ takes_in (Mode.Digit operand) fs k token.now }
 {
     match token {
         [digit] if 48 <= *digit && *digit <= 54 => Some(Mode::Scaled(operand, *digit - 48)),

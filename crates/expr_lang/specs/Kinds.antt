@@ -156,7 +156,8 @@ kind_of columns (absolute a) = option_and_then same_number (kind_of columns a)
 kind_of columns (length_of a) = option_and_then length_kind (kind_of columns a)
 kind_of columns (rescaled a k) = option_and_then (number_with k) (kind_of columns a)
 kind_of columns (coalesced a b) = both_kinds (one_kind (λ n m. m)) (kind_of columns a) (kind_of columns b)
-kind_of columns (chosen c a b) = option_and_then (λ t. both_kinds (choice_kind t) (kind_of columns a) (kind_of columns b)) (kind_of columns c)
+kind_of columns (chosen c a b) = option_and_then (λ t. both_kinds (choice_kind t) (kind_of columns a)
+    (kind_of columns b)) (kind_of columns c)
 
 -- the kind, or what is wrong: first of all the first unknown column in the text
 abbrev pub kind_unless : Option (List ℕ) → Option ExprKind → Result ExprKind TypeFault

@@ -193,7 +193,8 @@ meaning columns tuple (absolute a) = size (meaning columns tuple a)
 meaning columns tuple (length_of a) = byte_count (meaning columns tuple a)
 meaning columns tuple (rescaled a k) = with_places k (meaning columns tuple a)
 meaning columns tuple (coalesced a b) = first_of (meaning columns tuple a) (meaning columns tuple b)
-meaning columns tuple (chosen c a b) = choice (truth_in (meaning columns tuple c)) (meaning columns tuple a) (meaning columns tuple b)
+meaning columns tuple (chosen c a b) = choice (truth_in (meaning columns tuple c)) (meaning columns tuple a)
+    (meaning columns tuple b)
 
 -- a number without places is an Int, and any other a Dec
 abbrev pub value_in : Meaning → Value
