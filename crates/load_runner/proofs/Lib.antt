@@ -1,5 +1,6 @@
 pub mod Readings
 pub mod Standings
+pub mod Steps
 pub mod Chains
 pub mod Tables
 pub mod Begun
