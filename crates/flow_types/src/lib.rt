@@ -17,6 +17,7 @@ mod laws;
 mod named;
 mod names;
 mod node;
+mod node_text;
 mod typing;
 
 pub use built::is_built;

@@ -3,3 +3,4 @@ pub mod Counted
 pub mod Carried
 pub mod Clustered
 pub mod Instances
+pub mod Trees
