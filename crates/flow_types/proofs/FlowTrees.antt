@@ -1,18 +1,21 @@
 -- The tree of a typed flow.
-use Rattle.std.proofs.Common.{◌≡◌, ℕ, List, [], ◌∷◌, length, map, slice_get, refl, ap, sym, ◌∙◌, subst, cond, count_by, ◌==◌, ◌+◌, None, Some, Ok, ◌≤◌, length-append, arith}
+use Rattle.std.proofs.Common.{◌≡◌, ℕ, List, [], ◌∷◌, length, map, slice_get, refl, ap, sym, ◌∙◌, subst, cond, All, zero, suc, find, Bool, true, eq-eqb, inl, inr, count_by, ◌==◌, ◌+◌, None, Some, Ok, ◌≤◌, length-append, arith}
 use Rattle.std.proofs.lemmas.List.{length-map}
 use Rattle.std.proofs.lemmas.List.Sums.{sum_by-cons}
+use Rattle.std.proofs.lemmas.List.Elements.{All-nil, All-cons, All-append}
+use Rattle.std.proofs.lemmas.Bool.Decides.{eqb_tells}
 use Rattle.std.proofs.lemmas.Option.{same_Some}
 use Rattle.list_algebra.specs.Trees.{Tree, node, Trees, no_trees, tree, roots_of, in_order, all_in_order, seen_tree, EachNode, EachNodeBelow, EachNext, root_of, trees_in}
 use Rattle.list_algebra.proofs.Trees.{trees_in-tree, next-all}
 use Rattle.workflow_file.specs.declared.raw.RawFlow.{RawFlow}
 use Rattle.flow_types.specs.declared.node.Node.{Node}
-use Rattle.flow_types.specs.Flows.{TypedFlow, number_of, count_inputs, tree_of, root_in, ids_of}
-use Rattle.flow_types.specs.Linked.{IsLinkedOver, IsTreeOf, IsFlow}
+use Rattle.flow_types.specs.Flows.{TypedFlow, number_of, count_inputs, tree_of, root_in, ids_of, node_of}
+use Rattle.flow_types.specs.Columns.{IsInt}
+use Rattle.flow_types.specs.Linked.{IsLinkedOver, IsTreeOf, AreApart, IsFlow}
 use Rattle.flow_types.specs.Graph.{graph_of, ComeOnce}
 use Rattle.flow_types.specs.Typed.{typed, typed_tree, nodes_in}
 use Rattle.flow_types.proofs.Made.{bound, tree_numbers, seen_in_order}
-use Rattle.flow_types.proofs.TypedTrees.{read, root_in-tree}
+use Rattle.flow_types.proofs.TypedTrees.{read, root_in-tree, tree_ints}
 
 -- a node has the inputs that the trees below it have as roots
 abbrev HasInputs : Node → Trees Node → Type 0
@@ -90,3 +93,56 @@ alone_in flow is = ap (trees_in count_inputs) (sym is.all) ∙ trees_in-tree cou
 
 pub root_at : (flow : TypedFlow) (is : IsFlow flow) → root_in flow.nodes ≡ Some (root_of is.tree)
 root_at flow is = ap root_in (sym is.all) ∙ root_in-tree is.tree
+
+pub root_ints : (flow : TypedFlow) → IsFlow flow → (n : Node) → root_in flow.nodes ≡ Some n → All IsInt n.schema
+root_ints flow is n at = subst (λ (m : Node). All IsInt m.schema) (same_Some _ _ (sym (root_at flow is) ∙ at)) (tree_ints is.tree is.linked)
+
+mutual
+  ints_in : (t : Tree Node) → EachNode IsLinkedOver t → All (λ n. All IsInt n.schema) (in_order t)
+  ints_in (node n trees) linked =
+      All-append (λ m. All IsInt m.schema) (all_in_order trees) (n ∷ []) (all_ints_in trees linked.1)
+      (All-cons (λ m. All IsInt m.schema) n [] linked.0.ints (All-nil (λ m. All IsInt m.schema)))
+
+  all_ints_in : (trees : Trees Node) → EachNodeBelow IsLinkedOver trees → All (λ n. All IsInt n.schema) (all_in_order trees)
+  all_ints_in no_trees linked = All-nil (λ m. All IsInt m.schema)
+  all_ints_in (tree first rest) linked =
+      All-append (λ m. All IsInt m.schema) (in_order first) (all_in_order rest) (ints_in first linked.0) (all_ints_in rest linked.1)
+
+-- the columns of each node of a flow are whole numbers
+pub all_ints : (flow : TypedFlow) → IsFlow flow → All (λ n. All IsInt n.schema) flow.nodes
+all_ints flow is = subst (All (λ (n : Node). All IsInt n.schema)) is.all (ints_in is.tree is.linked)
+
+adds : (b : Bool) → b ≡ true → (let count : ℕ = cond b 1 0 in count) ≡ 1
+adds b is = rw is refl
+
+counted : (nodes : List Node) (k : ℕ) (m : Node) (q : ℕ) → slice_get nodes k ≡ Some m → number_of m ≡ q → 1 ≤ count_by (λ n. number_of n == q) nodes
+counted [] k m q is same = absurd (cc)
+counted (n ∷ nodes) zero m q is same =
+    let here : n ≡ m = same_Some _ _ is in
+    let one = adds (number_of n == q) (eq-eqb (number_of n) q (ap number_of here ∙ same)) in
+    let sum = sum_by-cons (λ x. cond (number_of x == q) 1 0) n nodes in
+    omega arith
+counted (n ∷ nodes) (suc k) m q is same =
+    let rest = counted nodes k m q is same in
+    let sum = sum_by-cons (λ x. cond (number_of x == q) 1 0) n nodes in
+    omega arith
+
+found : (nodes : List Node) (k : ℕ) (n : Node) → AreApart nodes → slice_get nodes k ≡ Some n → find (λ m. number_of m == number_of n) nodes ≡ Some n
+found [] k n apart is = absurd (cc)
+found (x ∷ nodes) zero n apart is =
+    let here : x ≡ n = same_Some _ _ is in
+    rw (eq-eqb (number_of x) (number_of n) (ap number_of here)) (ap Some here)
+found (x ∷ nodes) (suc k) n apart is = elim (eqb_tells (number_of x) (number_of n)) [
+  | inl same ↦
+      let one = adds (number_of x == number_of n) same.0 in
+      let rest = counted nodes k n (number_of n) is refl in
+      let sum = sum_by-cons (λ y. cond (number_of y == number_of n) 1 0) x nodes in
+      let most = apart (number_of n) in
+      absurd (omega arith)
+  | inr other ↦
+      rw other.0
+      (found nodes k n (λ q. let sum = sum_by-cons (λ y. cond (number_of y == q) 1 0) x nodes in let most = apart q in omega arith) is)
+]
+
+pub found_in : (flow : TypedFlow) → IsFlow flow → (place : ℕ) (n : Node) → slice_get flow.nodes place ≡ Some n → node_of flow n.id ≡ Some n
+found_in flow is place n at = found flow.nodes place n is.apart at

@@ -85,7 +85,7 @@ one_input nodes is = record {
 }
 
 -- the root's columns are whole numbers
-tree_ints : (t : Tree Node) → EachNode IsLinkedOver t → All IsInt (root_of t).schema
+pub tree_ints : (t : Tree Node) → EachNode IsLinkedOver t → All IsInt (root_of t).schema
 tree_ints (node n trees) linked = linked.0.ints
 
 inputs_ints : (trees : Trees Node) → EachNodeBelow IsLinkedOver trees → (o : Option Node) → roots_of trees ≡ option_to_list o → IfSome o (λ n. All IsInt n.schema)

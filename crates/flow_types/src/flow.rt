@@ -1,7 +1,8 @@
 // Flows.
-ghost use Rattle.std.specs.Prelude.{◌≡◌, ◌==◌, Some, length, position, option_map, option_copied, IsSome, IsTrue, IfOk};
+ghost use Rattle.std.specs.Prelude.{◌≡◌, ◌==◌, Some, length, position, option_map, option_copied, IsSome, IsTrue, All};
 ghost use Rattle.tuple_schema.specs.Stops.{Gives};
 ghost use Rattle.workflow_file.specs.Kept.{KeepsRules};
+ghost use Rattle.flow_types.specs.Columns.{IsInt};
 ghost use Rattle.flow_types.specs.Built.{is_built};
 ghost use Rattle.flow_types.specs.Typed.{typed};
 ghost use Rattle.flow_types.specs.Flows.{number_of, node_of, root_in};
@@ -40,6 +41,7 @@ impl Flow {
     pub fn nodes(&self) -> &[Node]
         ensures same { result.now ≡ self.now.nodes }
         ensures flow { IsFlow self.now }
+        ensures ints { All (λ n. All IsInt n.schema) result.now }
     {
         &self.nodes
     }
@@ -48,7 +50,15 @@ impl Flow {
     pub fn root(&self) -> NodeId
         ensures { Some result ≡ option_map (λ n. n.id) (root_in self.now.nodes) }
     {
-        self.nodes[self.nodes.len() - 1].id
+        self.root_node().id
+    }
+
+    /// That node itself, whose columns are whole numbers.
+    pub fn root_node(&self) -> &Node
+        ensures last { Some result.now ≡ root_in self.now.nodes }
+        ensures ints { All IsInt result.now.schema }
+    {
+        &self.nodes[self.nodes.len() - 1]
     }
 
     /// The columns of the table's key.

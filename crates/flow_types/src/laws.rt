@@ -1,10 +1,10 @@
 // The tree of a flow.
-ghost use Rattle.std.specs.Prelude.{◌≡◌, ℕ, [], ◌∷◌, Some, Ok};
+ghost use Rattle.std.specs.Prelude.{◌≡◌, ℕ, [], ◌∷◌, Some, Ok, slice_get};
 ghost use Rattle.workflow_file.specs.declared.raw.RawFlow.{RawFlow};
 ghost use Rattle.list_algebra.specs.Trees.{Tree, root_of, seen_tree, trees_in, EachNext};
 ghost use Rattle.flow_types.specs.declared.node.Node.{Node};
 ghost use Rattle.flow_types.specs.Graph.{graph_of};
-ghost use Rattle.flow_types.specs.Flows.{TypedFlow, number_of, count_inputs, tree_of, root_in};
+ghost use Rattle.flow_types.specs.Flows.{TypedFlow, number_of, count_inputs, tree_of, root_in, node_of};
 ghost use Rattle.flow_types.specs.Typed.{typed};
 ghost use Rattle.flow_types.specs.Linked.{IsLinkedOver, IsFlow};
 
@@ -17,6 +17,9 @@ pub fn tree_laws()
     // Its nodes make its tree alone, and the root is the last of them.
     ensures alone { (flow : TypedFlow) (is : IsFlow flow) → trees_in count_inputs flow.nodes ≡ is.tree ∷ [] }
     ensures root { (flow : TypedFlow) (is : IsFlow flow) → root_in flow.nodes ≡ Some (root_of is.tree) }
+
+    // Each node is found by its number.
+    ensures found { (flow : TypedFlow) → IsFlow flow → (place : ℕ) (n : Node) → slice_get flow.nodes place ≡ Some n → node_of flow n.id ≡ Some n }
 
     // Each node stands over the trees of its inputs, when it comes behind the nodes before it.
     ensures next { (flow : TypedFlow) → IsFlow flow → EachNext count_inputs IsLinkedOver [] flow.nodes }

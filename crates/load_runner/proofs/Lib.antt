@@ -1,7 +1,8 @@
 pub mod Readings
 pub mod Standings
-pub mod Chains
+pub mod Numbers
 pub mod Tables
 pub mod Begun
 pub mod Ran
 pub mod Loaded
+pub mod Contents
