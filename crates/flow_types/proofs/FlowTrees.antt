@@ -77,7 +77,7 @@ pub flow_of : (raw : RawFlow) (places : Tree ℕ) (nodes : List Node) → nodes_
 flow_of raw places nodes typed is once few =
     let t = read (typed_tree raw places) nodes typed in
     let numbers : map number_of nodes ≡ in_order places =
-      ap (map number_of) (sym t.2) ∙ sym (seen_in_order number_of t.0) ∙ ap in_order (tree_numbers raw places t.0 t.1).0 in
+    ap (map number_of) (sym t.2) ∙ sym (seen_in_order number_of t.0) ∙ ap in_order (tree_numbers raw places t.0 t.1).0 in
     let count : length (map number_of nodes) ≡ length nodes = rw length-map refl in
     record {
       tree = is.tree;

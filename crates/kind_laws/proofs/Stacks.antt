@@ -197,9 +197,9 @@ module _ (truth : Lists) (trees : List (Tree Node)) (n : Node) (linked : IsLinke
     inputs_are = refl;
     lists_are = refl;
     rows_are =
-      are ∙ ap (λ ns. output_of n.kind (columns_of ns) (drop (length trees - count_inputs n) (map (list_of truth) trees))) (drop-map root_of (length trees - count_inputs n) trees)
-      ∙ ap (output_of n.kind (columns_of (map root_of (drop (length trees - count_inputs n) trees)))) (drop-map (list_of truth) (length trees - count_inputs n) trees)
-      ∙ sym (made_list truth n (drop (length trees - count_inputs n) trees) linked back_fine no_source);
+        are ∙ ap (λ ns. output_of n.kind (columns_of ns) (drop (length trees - count_inputs n) (map (list_of truth) trees))) (drop-map root_of (length trees - count_inputs n) trees)
+        ∙ ap (output_of n.kind (columns_of (map root_of (drop (length trees - count_inputs n) trees)))) (drop-map (list_of truth) (length trees - count_inputs n) trees)
+        ∙ sym (made_list truth n (drop (length trees - count_inputs n) trees) linked back_fine no_source);
     fine = fine_made truth n (drop (length trees - count_inputs n) trees) linked back_fine no_source;
   }
 

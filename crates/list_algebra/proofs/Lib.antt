@@ -4,3 +4,4 @@ pub mod Carried
 pub mod Clustered
 pub mod Instances
 pub mod Trees
+mod TreeExamples

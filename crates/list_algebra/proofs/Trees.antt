@@ -34,6 +34,7 @@ module _ {N : Type 0} (takes : N → ℕ) where
 
   mutual
     unfolding listed
+
     -- behind a tree's nodes stands the tree
     pub fold-tree : (t : Tree N) (front : List (Tree N)) (rest : List N) → EachNode (λ n trees. length (roots_of trees) ≡ takes n) t
         → fold (with_node takes) front (in_order t ++ rest) ≡ fold (with_node takes) (front ++ t ∷ []) rest
@@ -59,12 +60,13 @@ module _ {N : Type 0} (takes : N → ℕ) where
   module _ (Fact : N → Trees N → Type 0) where
     mutual
       unfolding listed
+
       -- what holds of each node of a tree holds of each next one
       pub next-tree : (t : Tree N) (front : List (Tree N)) (rest : List N) → EachNode (λ n trees. length (roots_of trees) ≡ takes n) t → EachNode Fact t
           → EachNext takes Fact (front ++ t ∷ []) rest → EachNext takes Fact front (in_order t ++ rest)
       next-tree (node n trees) front rest each facts behind =
           let here : EachNext takes Fact (front ++ listed trees) (n ∷ rest) =
-            (subst (Fact n) (sym (over n front trees each.0)) facts.0, subst (λ ts. EachNext takes Fact ts rest) (sym (with_node-over n front trees each.0)) behind) in
+          (subst (Fact n) (sym (over n front trees each.0)) facts.0, subst (λ ts. EachNext takes Fact ts rest) (sym (with_node-over n front trees each.0)) behind) in
           subst (EachNext takes Fact front) (sym (append_assoc (all_in_order trees) (n ∷ []) rest)) (next-trees trees front (n ∷ rest) each.1 facts.1 here)
 
       next-trees : (trees : Trees N) (front : List (Tree N)) (rest : List N) → EachNodeBelow (λ n trees. length (roots_of trees) ≡ takes n) trees → EachNodeBelow Fact trees

@@ -6,3 +6,4 @@ pub mod Begun
 pub mod Ran
 pub mod Loaded
 pub mod Contents
+mod ContentExamples

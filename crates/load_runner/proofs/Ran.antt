@@ -204,8 +204,7 @@ module _ (agree : VerdictsAgree) (once : HoldsOnce) (law : BlocksHold) (job : Jo
       → Holds image job.text (with_blocks olds taken) ended → HasTable text blocks image
   has_on text blocks has holds taken ended image grown =
       let one = once mid.file text job.text (blocks ++ has.0) olds has.1 false has.2 holds in
-      let are : with_blocks olds taken ≡ blocks ++ with_blocks has.0 taken = ap (λ (bs : List Stored). with_blocks bs taken) (sym one.1) ∙ append_assoc blocks has.0 (map stored_of taken) in
-      (
+      let are : with_blocks olds taken ≡ blocks ++ with_blocks has.0 taken = ap (λ (bs : List Stored). with_blocks bs taken) (sym one.1) ∙ append_assoc blocks has.0 (map stored_of taken) in (
         with_blocks has.0 taken,
         ended,
         subst (λ (t : List ℕ). Holds image t (blocks ++ with_blocks has.0 taken) ended) (sym one.0) (subst (λ (bs : List Stored). Holds image job.text bs ended) are grown),

@@ -11,6 +11,6 @@ invariant_of-result c =
     let links = c.in_ok-graph.graph.links.items in
     let count : c.len.result ≡ length links = omega (arith, c.len.ensures, c.in_ok-graph.graph.links.ok.0) in
     let typed : nodes_in (typed_tree c.args.raw.now (tree_below (links_in links) (length links - 1) c.in_ok-graph.graph.root)) ≡ Ok c.in_ok-nodes.nodes.items =
-      rw (← count, ← c.deref.ensures.value) c.in_ok-nodes.ensures.nodes in
+    rw (← count, ← c.deref.ensures.value) c.in_ok-nodes.ensures.nodes in
     flow_of c.args.raw.now (flow_tree c.in_ok-graph.graph.root (links_in c.in_ok-graph.graph.links.items)) c.in_ok-nodes.nodes.items
     (rw (flow_tree_is c.in_ok-graph.graph.root links) typed) c.in_ok-nodes.ensures.tree c.in_ok-graph.ensures.once c.in_ok-graph.ensures.few

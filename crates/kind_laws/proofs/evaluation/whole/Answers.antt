@@ -35,11 +35,11 @@ out-requires c =
     let next = next_here nodes c.loop-node.node-index n c.loop-node-test.true c.node-item.is trees c.loop-node.invariant.next in
     let lists : length c.loop-node.lists.items ≡ length trees = ap length c.loop-node.invariant.lists ∙ rw length-map refl in
     let at : c.len.result - length c.nodes.result.now ≡ length trees - count_inputs n =
-      rw c.nodes.ensures (ap (λ k. k - count_inputs n) (omega (arith, c.len.ensures, c.loop-node.lists.ok.0, lists))) in
+    rw c.nodes.ensures (ap (λ k. k - count_inputs n) (omega (arith, c.len.ensures, c.loop-node.lists.ok.0, lists))) in
     let inputs : map (λ m. m.now) c.in_ok-split_off-in_default.field-0.items ≡ drop (length trees - count_inputs n) (map root_of trees) =
-      ap (map (λ m. m.now)) c.in_ok-split_off-in_default.ensures.tail ∙ sym (drop-map (λ m. m.now) _ c.loop-node.inputs.items) ∙ ap (drop _) c.loop-node.invariant.inputs ∙ ap (λ k. drop k (map root_of trees)) at in
+    ap (map (λ m. m.now)) c.in_ok-split_off-in_default.ensures.tail ∙ sym (drop-map (λ m. m.now) _ c.loop-node.inputs.items) ∙ ap (drop _) c.loop-node.invariant.inputs ∙ ap (λ k. drop k (map root_of trees)) at in
     let given : c.in_ok-split_off-in_default-2.field-0.items ≡ drop (length trees - count_inputs n) (map (list_of truth) trees) =
-      c.in_ok-split_off-in_default-2.ensures.tail ∙ ap (drop _) c.loop-node.invariant.lists ∙ ap (λ k. drop k (map (list_of truth) trees)) at in
+    c.in_ok-split_off-in_default-2.ensures.tail ∙ ap (drop _) c.loop-node.invariant.lists ∙ ap (λ k. drop k (map (list_of truth) trees)) at in
     rw (inputs, given) (can_take_last truth trees n next.0 c.loop-node.invariant.fine)
 
 single : {X : Type 0} (x y : X) (front : List X) → x ∷ [] ≡ front ++ y ∷ [] → x ≡ y
@@ -93,18 +93,18 @@ made c = elim c.match-node.branch [
       let n = c.node-item.result in
       let lists : length c.loop-node.lists.items ≡ length trees = ap length c.loop-node.invariant.lists ∙ rw length-map refl in
       let at : w.len.result - length w.nodes.result.now ≡ length trees - count_inputs n =
-        rw w.nodes.ensures (ap (λ k. k - count_inputs n) (omega (arith, w.len.ensures, c.loop-node.lists.ok.0, lists))) in
+      rw w.nodes.ensures (ap (λ k. k - count_inputs n) (omega (arith, w.len.ensures, c.loop-node.lists.ok.0, lists))) in
       let inputs : map (λ m. m.now) w.in_ok-split_off-in_default.field-0.items ≡ drop (length trees - count_inputs n) (map root_of trees) =
-        ap (map (λ m. m.now)) w.in_ok-split_off-in_default.ensures.tail ∙ sym (drop-map (λ m. m.now) _ c.loop-node.inputs.items) ∙ ap (drop _) c.loop-node.invariant.inputs ∙ ap (λ k. drop k (map root_of trees)) at in
+      ap (map (λ m. m.now)) w.in_ok-split_off-in_default.ensures.tail ∙ sym (drop-map (λ m. m.now) _ c.loop-node.inputs.items) ∙ ap (drop _) c.loop-node.invariant.inputs ∙ ap (λ k. drop k (map root_of trees)) at in
       let given : w.in_ok-split_off-in_default-2.field-0.items ≡ drop (length trees - count_inputs n) (map (list_of truth) trees) =
-        w.in_ok-split_off-in_default-2.ensures.tail ∙ ap (drop _) c.loop-node.invariant.lists ∙ ap (λ k. drop k (map (list_of truth) trees)) at in
+      w.in_ok-split_off-in_default-2.ensures.tail ∙ ap (drop _) c.loop-node.invariant.lists ∙ ap (λ k. drop k (map (list_of truth) trees)) at in
       let left : map (λ m. m.now) c.match-node.inputs.items ≡ take (length trees - count_inputs n) (map root_of trees) =
-        ap (λ v. map (λ m. m.now) v.items) w.inputs-is ∙ ap (map (λ m. m.now)) w.in_ok-split_off-in_default.ensures.items ∙ sym (take-map (λ m. m.now) _ c.loop-node.inputs.items)
-        ∙ ap (take _) c.loop-node.invariant.inputs ∙ ap (λ k. take k (map root_of trees)) at in
+      ap (λ v. map (λ m. m.now) v.items) w.inputs-is ∙ ap (map (λ m. m.now)) w.in_ok-split_off-in_default.ensures.items ∙ sym (take-map (λ m. m.now) _ c.loop-node.inputs.items)
+      ∙ ap (take _) c.loop-node.invariant.inputs ∙ ap (λ k. take k (map root_of trees)) at in
       let others : c.match-node.lists.items ≡ take (length trees - count_inputs n) (map (list_of truth) trees) =
-        ap (λ v. v.items) w.lists-is ∙ w.in_ok-split_off-in_default-2.ensures.items ∙ ap (take _) c.loop-node.invariant.lists ∙ ap (λ k. take k (map (list_of truth) trees)) at in
+      ap (λ v. v.items) w.lists-is ∙ w.in_ok-split_off-in_default-2.ensures.items ∙ ap (take _) c.loop-node.invariant.lists ∙ ap (λ k. take k (map (list_of truth) trees)) at in
       let rows : c.match-node.rows ≡ output_of n.kind (columns_of (drop (length trees - count_inputs n) (map root_of trees))) (drop (length trees - count_inputs n) (map (list_of truth) trees)) =
-        w.rows-is ∙ w.in_ok-rows-in_default.ensures ∙ ap (λ ns. output_of n.kind (columns_of ns) w.in_ok-split_off-in_default-2.field-0.items) inputs ∙ ap (output_of n.kind _) given in
+      w.rows-is ∙ w.in_ok-rows-in_default.ensures ∙ ap (λ ns. output_of n.kind (columns_of ns) w.in_ok-split_off-in_default-2.field-0.items) inputs ∙ ap (output_of n.kind _) given in
       rw (left, others) (made_other truth trees n (next_at c).0 c.loop-node.invariant.fine w.in_default.not-Source c.match-node.rows rows)
 ]
 
@@ -115,7 +115,7 @@ unspent c k n past is = elim c.match-node.branch [
       let flow = c.nodes-node-items.ensures.flow in
       let same = c.nodes-node-items.ensures.same in
       let other : number_of n ≡ number_of c.node-item.result → ⊥ =
-        apart_at c.args.flow.now.nodes c.loop-node.node-index k c.node-item.result n flow.apart (rw (← same) (item_at c)) (rw (← same) is) (omega arith) in
+      apart_at c.args.flow.now.nodes c.loop-node.node-index k c.node-item.result n flow.apart (rw (← same) (item_at c)) (rw (← same) is) (omega arith) in
       rw (w.sources-is, w.take_list-rows.ensures.others, get_or-set_other c.loop-node.sources.items (number_of c.node-item.result) (number_of n) [] [] other)
       (c.loop-node.invariant.unspent k n (omega arith) is)
   | in_default+in_ok-split_off-in_default+in_ok-split_off-in_default-2+in_ok-rows-in_default w ↦ rw w.sources-is (c.loop-node.invariant.unspent k n (omega arith) is)

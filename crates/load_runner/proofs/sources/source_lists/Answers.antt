@@ -19,15 +19,15 @@ use Rattle.load_runner.proofs.sources.source_lists.Goals as goal
 pub source_rows-requires : goal.source_rows-requires
 source_rows-requires g c =
     let kinds : All (λ (n : Node). All (λ (column : Column). column.kind ≡ column_kind.Int) n.schema) c.nodes-nodes.result.now =
-      All-weaker (λ (n : Node). All IsInt n.schema) (λ (n : Node). All (λ (column : Column). column.kind ≡ column_kind.Int) n.schema)
-      (λ n ints. All-weaker IsInt (λ (column : Column). column.kind ≡ column_kind.Int) (λ column int. int.0) n.schema ints) c.nodes-nodes.result.now c.nodes-nodes.ensures.ints in
+    All-weaker (λ (n : Node). All IsInt n.schema) (λ (n : Node). All (λ (column : Column). column.kind ≡ column_kind.Int) n.schema)
+    (λ n ints. All-weaker IsInt (λ (column : Column). column.kind ≡ column_kind.Int) (λ column int. int.0) n.schema ints) c.nodes-nodes.result.now c.nodes-nodes.ensures.ints in
     rw c.numbered.ensures (found_has (λ (n : Node). All (λ (column : Column). column.kind ≡ column_kind.Int) n.schema) (λ n. number_of n == c.loop-number.number) c.nodes-nodes.result.now kinds)
 
 pub returns-in_default-clause-contents : goal.returns-in_default-clause-contents
 returns-in_default-clause-contents g c = λ files told.
     let at : option_copied c.numbered.result ≡ numbered c.args.flow.now.nodes c.loop-number.number = c.numbered.ensures ∙ ap (λ nodes. numbered nodes c.loop-number.number) c.nodes-nodes.ensures.same in
     let none : content_of files (numbered c.args.flow.now.nodes c.loop-number.number) ≡ None =
-      ap (content_of files) (sym at) ∙ c.in_ok-rows.ensures.content files (c.loop-number.invariant.consults.files ∙ told) ∙ c.in_default.is in
+    ap (content_of files) (sym at) ∙ c.in_ok-rows.ensures.content files (c.loop-number.invariant.consults.files ∙ told) ∙ c.in_default.is in
     contents_none (λ number. content_of files (numbered c.args.flow.now.nodes number)) (length c.args.flow.now.nodes) c.loop-number.number
     (let all : length c.nodes-nodes.result.now ≡ length c.args.flow.now.nodes = ap length c.nodes-nodes.ensures.same in omega (arith, c.loop-number-test.true, all)) none
 
@@ -39,7 +39,7 @@ loop-number-preserved g c =
     record {
       contents = λ files told.
           let here : content_of files (numbered c.args.flow.now.nodes number) ≡ Some rows =
-            ap (content_of files) (sym at) ∙ c.in_ok-rows.ensures.content files (c.loop-number.invariant.consults.files ∙ told) ∙ c.in-Some.is in
+          ap (content_of files) (sym at) ∙ c.in_ok-rows.ensures.content files (c.loop-number.invariant.consults.files ∙ told) ∙ c.in-Some.is in
           contents_more (λ k. content_of files (numbered c.args.flow.now.nodes k)) number c.loop-number.lists.items rows (c.loop-number.invariant.contents files told) here
           ∙ ap Some (sym c.in_ok-push.ensures.items);
       fit = λ k n small is. elim (cases_lt k number) [
