@@ -25,7 +25,7 @@ fails_here : (b : Bool) (n : ℕ) → (if b then Some n else None) ≡ None → 
 fails_here true n none = absurd (cc)
 fails_here false n none = refl
 
-least_fails : (n : ℕ) (test : ℕ → Bool) (k : ℕ) → k < n → least n test ≡ None → test k ≡ false
+pub least_fails : (n : ℕ) (test : ℕ → Bool) (k : ℕ) → k < n → least n test ≡ None → test k ≡ false
 unfolding least
 least_fails zero test k h none = absurd (omega arith)
 least_fails (suc n) test k h none =

@@ -1,188 +1,148 @@
--- The tree of a typed flow is the tree that the names in it make.
-use Rattle.std.proofs.Common.{◌≡◌, ℕ, zero, suc, ◌+◌, ◌-◌, ◌<◌, ◌≤◌, List, [], ◌∷◌, ◌++◌, fold, filter_map, get_or, slice_get, length, true, bytes_eq, codes, refl, ap, sym, ◌∙◌, inl, inr, Option, Some, None, option_and_then, option_to_list, ◌⊎◌, IsTrue, Result, Ok, Err, arith, sub-one}
-use Rattle.std.proofs.lemmas.Bool.{cases_Bool, cases_lt, eq-eqb}
-use Rattle.std.proofs.lemmas.List.{get_or-map, get_or_past, length-map}
-use Rattle.std.proofs.lemmas.Option.{slice_get_past}
-use Rattle.tuple_schema.specs.Stops.{◌>>=◌}
-use Rattle.workflow_file.specs.declared.raw.RawSource.{RawSource}
-use Rattle.workflow_file.specs.declared.raw.RawNode.{RawNode}
+-- The tree of a typed flow.
+use Rattle.std.proofs.Common.{◌≡◌, ℕ, List, [], ◌∷◌, length, map, slice_get, refl, ap, sym, ◌∙◌, subst, cond, All, zero, suc, find, Bool, true, eq-eqb, inl, inr, count_by, ◌==◌, ◌+◌, None, Some, Ok, ◌≤◌, length-append, arith}
+use Rattle.std.proofs.lemmas.List.{length-map}
+use Rattle.std.proofs.lemmas.List.Sums.{sum_by-cons}
+use Rattle.std.proofs.lemmas.List.Elements.{All-nil, All-cons, All-append}
+use Rattle.std.proofs.lemmas.Bool.Decides.{eqb_tells}
+use Rattle.std.proofs.lemmas.Option.{same_Some}
+use Rattle.list_algebra.specs.Trees.{Tree, node, Trees, no_trees, tree, roots_of, in_order, all_in_order, seen_tree, EachNode, EachNodeBelow, EachNext, root_of, trees_in}
+use Rattle.list_algebra.proofs.Trees.{trees_in-tree, next-all}
 use Rattle.workflow_file.specs.declared.raw.RawFlow.{RawFlow}
-use Rattle.workflow_file.specs.Kept.{KeepsRules}
-use Rattle.plain_where.specs.declared.expr.Expr.{Expr}
-use Rattle.plain_where.specs.Texts.{expression_of}
-use Rattle.plain_where.specs.Truths.{place_of}
-use Rattle.flow_types.specs.declared.fault.SchemaCause.{SchemaCause}
-use Rattle.flow_types.specs.declared.fault.SchemaFault.{SchemaFault}
-use Rattle.flow_types.specs.declared.fault.NodeId.{NodeId}
 use Rattle.flow_types.specs.declared.node.Node.{Node}
-use Rattle.flow_types.specs.Trees.{Tree, tree_below, inputs_below}
-use Rattle.flow_types.specs.Built.{is_built}
-use Rattle.flow_types.specs.Graph.{id_of, names_of, needs_of, links_of, names_differ, inputs_exist, root_at, used_once, all_reached, flow_tree, graph_of}
-use Rattle.flow_types.specs.Typed.{typed_select, typed_project, typed_over, typed_at, typed_node, last_of, typed_last, typed_tree, typed}
-use Rattle.flow_types.specs.NodeTrees.{number_of, tree_at, with_tree, listed_trees, last_tree, tree_of}
-use Rattle.flow_types.proofs.Reached.{tree_split}
-use Rattle.flow_types.proofs.TypedTrees.{typed_leaf, typed_above}
-use Rattle.flow_types.proofs.OneInput.{needs_source, needs_node, source_leaf, length-needs, length-names}
-use Rattle.flow_types.proofs.NodeTrees.{root_is}
+use Rattle.flow_types.specs.Flows.{TypedFlow, number_of, count_inputs, tree_of, root_in, ids_of, node_of}
+use Rattle.flow_types.specs.Columns.{IsInt}
+use Rattle.flow_types.specs.Linked.{IsLinkedOver, IsTreeOf, AreApart, IsFlow}
+use Rattle.flow_types.specs.Graph.{graph_of, ComeOnce}
+use Rattle.flow_types.specs.Typed.{typed, typed_tree, nodes_in}
+use Rattle.flow_types.proofs.Made.{bound, tree_numbers, seen_in_order}
+use Rattle.flow_types.proofs.TypedTrees.{read, root_in-tree, tree_ints}
 
--- a node that is read has this number and these inputs
-abbrev Shaped : Result Node SchemaCause → NodeId → List NodeId → Type 0
-Shaped r id inputs = (n : Node) → r ≡ Ok n → (n.id ≡ id) × (n.inputs ≡ inputs)
+-- a node has the inputs that the trees below it have as roots
+abbrev HasInputs : Node → Trees Node → Type 0
+HasInputs n trees = n.inputs ≡ ids_of (roots_of trees)
 
-made : (m : Node) → Shaped (Ok m) m.id m.inputs
-made m n e = let same : m ≡ n = cc in (ap (λ k. k.id) (sym same), ap (λ k. k.inputs) (sym same))
+mutual
+  -- a node that has the inputs below it has as many as there are trees
+  pub counts : (t : Tree Node) → EachNode HasInputs t → EachNode (λ n trees. length (roots_of trees) ≡ count_inputs n) t
+  counts (node n trees) has =
+      let all : length (ids_of (roots_of trees)) ≡ length (roots_of trees) = rw length-map refl in
+      (sym (ap length has.0 ∙ all), all_counts trees has.1)
 
-refused_node : (why : SchemaCause) (id : NodeId) (inputs : List NodeId) → Shaped (Err why) id inputs
-refused_node why id inputs n e = absurd (cc)
+  all_counts : (trees : Trees Node) → EachNodeBelow HasInputs trees → EachNodeBelow (λ n trees. length (roots_of trees) ≡ count_inputs n) trees
+  all_counts no_trees has = tt
+  all_counts (tree first rest) has = (counts first has.0, all_counts rest has.1)
 
-made_after : {X : Type 0} (r : Result X SchemaCause) (k : X → Result Node SchemaCause) (id : NodeId) (inputs : List NodeId)
-    → ((x : X) → Shaped (k x) id inputs) → Shaped (r >>= k) id inputs
-made_after (Ok x) k id inputs shaped = shaped x
-made_after (Err why) k id inputs shaped = refused_node why id inputs
+mutual
+  -- a linked node does
+  linked_has : (t : Tree Node) → EachNode IsLinkedOver t → EachNode HasInputs t
+  linked_has (node n trees) linked = (linked.0.inputs, all_linked_has trees linked.1)
 
-select_shape : (id : NodeId) (n : RawNode) (input : Node) (test : Option Expr) → Shaped (typed_select id n input test) id (input.id ∷ [])
-select_shape id n input None = refused_node _ id (input.id ∷ [])
-select_shape id n input (Some test) = made_after _ _ id (input.id ∷ []) (λ known. made _)
+  all_linked_has : (trees : Trees Node) → EachNodeBelow IsLinkedOver trees → EachNodeBelow HasInputs trees
+  all_linked_has no_trees linked = tt
+  all_linked_has (tree first rest) linked = (linked_has first linked.0, all_linked_has rest linked.1)
 
-project_shape : (id : NodeId) (n : RawNode) (input : Node) (texts : Option (List (List ℕ))) → Shaped (typed_project id n input texts) id (input.id ∷ [])
-project_shape id n input None = refused_node _ id (input.id ∷ [])
-project_shape id n input (Some texts) = made_after _ _ id (input.id ∷ []) (λ taken. made _)
+some_in : (t : Tree Node) → 1 ≤ length (in_order t)
+some_in (node n trees) = let all = length-append (all_in_order trees) (n ∷ []) in omega arith
 
-over_shape : (id : NodeId) (n : RawNode) (input : Node) → Shaped (typed_over id n (Some input)) id (input.id ∷ [])
-over_shape id n input =
-    elim (cases_Bool (bytes_eq n.kind (codes "select"))) [
-      | inl select ↦ rw select (select_shape id n input (option_and_then expression_of n.test))
-      | inr other ↦ elim (cases_Bool (bytes_eq n.kind (codes "project"))) [
-        | inl project ↦ rw (other, project) (project_shape id n input n.columns)
-        | inr neither ↦ rw (other, neither) (refused_node _ id (input.id ∷ []))
-      ]
-    ]
+-- so the nodes of a tree make the tree
+pub tree_made : (t : Tree Node) → EachNode HasInputs t → tree_of (in_order t) ≡ Some t
+tree_made t has = ap (λ trees. slice_get trees 0) (trees_in-tree count_inputs t (counts t has))
 
-leaf_shape : (id : NodeId) (s : Option RawSource) (n : Option RawNode) → Shaped (typed_at id s n []) id []
-leaf_shape id (Some s) n = made_after _ _ id [] (λ cols. made _)
-leaf_shape id None (Some n) = refused_node _ id []
-leaf_shape id None None = refused_node _ id []
+pub next_in : (flow : TypedFlow) → IsFlow flow → EachNext count_inputs IsLinkedOver [] flow.nodes
+next_in flow is = subst (EachNext count_inputs IsLinkedOver []) is.all (next-all count_inputs IsLinkedOver is.tree (counts is.tree (linked_has is.tree is.linked)) is.linked)
 
-above_shape : (id : NodeId) (n : Option RawNode) (input : Node) → Shaped (typed_at id None n (input ∷ [])) id (input.id ∷ [])
-above_shape id (Some n) input = over_shape id n input
-above_shape id None input = refused_node _ id (input.id ∷ [])
-
-no_leaf : (id : NodeId) (n : Option RawNode) (last : Node) → typed_at id None n [] ≡ Ok last → ⊥
-no_leaf id (Some n) last e = absurd (cc)
-no_leaf id None last e = absurd (cc)
-
--- the nodes are those before and one more
-last_made : (flow : RawFlow) (place : ℕ) (before nodes : List Node) → typed_last flow place before ≡ Ok nodes
-    → (last : Node) × (typed_node flow place (option_to_list (last_of before)) ≡ Ok last) × (nodes ≡ before ++ last ∷ [])
-last_made flow place before nodes e = by (typed_node flow place (option_to_list (last_of before))) refl
-  where
-    by : (r : Result Node SchemaCause) → typed_node flow place (option_to_list (last_of before)) ≡ r
-        → (last : Node) × (typed_node flow place (option_to_list (last_of before)) ≡ Ok last) × (nodes ≡ before ++ last ∷ [])
-    by (Ok last) is = let made : Ok (before ++ last ∷ []) ≡ Ok nodes = rw is at e in let same : before ++ last ∷ [] ≡ nodes = cc in (last, is, sym same)
-    by (Err why) is = let none = rw is at e in absurd (cc)
-
--- the newest tree of the number of the tree listed last
-newest : (trees : List Tree) (k : ℕ) → number_of (last_tree trees) ≡ k → tree_at trees k ≡ last_tree trees
-newest [] k is = rw (← is) refl
-newest (tree ∷ others) k is = rw (eq-eqb (number_of tree) k is) refl
-
-fold_push : (trees : List Tree) (nodes : List Node) (n : Node) → fold with_tree trees (nodes ++ n ∷ []) ≡ with_tree (fold with_tree trees nodes) n
-fold_push trees [] n = refl
-fold_push trees (m ∷ nodes) n = fold_push (with_tree trees m) nodes n
-
--- each node has at most one input
-abbrev pub AtMostOne : List (List ℕ) → Type 0
-AtMostOne links = (place : ℕ) → (get_or links place [] ≡ []) ⊎ ((input : ℕ) × (get_or links place [] ≡ input ∷ []))
-
-module _ (flow : RawFlow) (links : List (List ℕ)) (is : links ≡ links_of flow) where
-  leaf_tree : (depth place : ℕ) (nodes : List Node) → [] ≡ inputs_below links depth place → typed_tree flow (tree_below links depth place) ≡ Ok nodes
-      → tree_of nodes ≡ tree_below links depth place
-  unfolding listed_trees
-  leaf_tree depth place nodes none read =
-      let last = last_made flow place [] nodes (sym (typed_leaf flow links depth place none) ∙ read) in
-      let shape = leaf_shape (id_of place) (slice_get flow.sources place) (slice_get flow.nodes (place - length flow.sources)) last.0 last.1 in
-      rw (last.2, shape.0, shape.1, tree_split links depth place, ← none) refl
-
-  above_tree : (depth place input : ℕ) (below nodes : List Node) → input ∷ [] ≡ inputs_below links depth place → typed_tree flow (tree_below links (depth - 1) input) ≡ Ok below
-      → tree_of below ≡ tree_below links (depth - 1) input → typed_tree flow (tree_below links depth place) ≡ Ok nodes → tree_of nodes ≡ tree_below links depth place
-  unfolding listed_trees
-  above_tree depth place input below nodes one under same read =
-      let made = last_made flow place below nodes (sym (typed_above flow links depth place input below one under) ∙ read) in
-      by (last_of below) refl made.0 made.1 made.2
-    where
-      past : length flow.sources ≤ place
-      past = elim (cases_lt place (length flow.sources)) [
-        | inl early ↦ let none = one ∙ source_leaf flow links depth place is early in absurd (cc)
-        | inr late ↦ late
-      ]
-
-      by : (o : Option Node) → last_of below ≡ o → (last : Node) → typed_node flow place (option_to_list (last_of below)) ≡ Ok last → nodes ≡ below ++ last ∷ []
-          → tree_of nodes ≡ tree_below links depth place
-      by None at last read are = let refused = rw (at, slice_get_past flow.sources place past) at read in absurd (no_leaf _ _ last refused)
-      by (Some m) at last read are =
-          let shape = above_shape (id_of place) (slice_get flow.nodes (place - length flow.sources)) m last (rw (at, slice_get_past flow.sources place past) at read) in
-          rw (are, fold_push [] below last, shape.0, shape.1, newest (listed_trees below) m.id.0 (root_is below m at), same, tree_split links depth place, ← one) refl
-
-  above_fails : (depth place input : ℕ) (fault : SchemaFault) (nodes : List Node) → input ∷ [] ≡ inputs_below links depth place
-      → typed_tree flow (tree_below links (depth - 1) input) ≡ Err fault → typed_tree flow (tree_below links depth place) ≡ Ok nodes → ⊥
-  above_fails depth place input fault nodes one failed read = let none = rw (tree_split links depth place, ← one, failed) at read in absurd (cc)
-
-  pub tree_is : AtMostOne links → (depth place : ℕ) (nodes : List Node) → typed_tree flow (tree_below links depth place) ≡ Ok nodes → tree_of nodes ≡ tree_below links depth place
-  tree_is most zero place nodes read = leaf_tree zero place nodes refl read
-  tree_is most (suc depth) place nodes read = elim (most place) [
-    | inl none ↦ leaf_tree (suc depth) place nodes (sym none) read
-    | inr one ↦ under one.0 (sym one.1) (typed_tree flow (tree_below links depth one.0)) refl (λ below. tree_is most depth one.0 below)
-  ]
-    where
-      under : (input : ℕ) → input ∷ [] ≡ get_or links place [] → (r : Result (List Node) SchemaFault) → typed_tree flow (tree_below links depth input) ≡ r
-          → ((below : List Node) → typed_tree flow (tree_below links depth input) ≡ Ok below → tree_of below ≡ tree_below links depth input)
-          → tree_of nodes ≡ tree_below links (suc depth) place
-      under input one (Ok below) made same = above_tree (suc depth) place input below nodes one (rw sub-one made) (rw sub-one (same below made)) read
-      under input one (Err fault) made same = absurd (above_fails (suc depth) place input fault nodes one (rw sub-one made) read)
-
-few : (names wanted : List (List ℕ)) (o : Option (List ℕ)) → wanted ≡ option_to_list o → (filter_map (place_of names) wanted ≡ []) ⊎ ((input : ℕ) × (filter_map (place_of names) wanted ≡ input ∷ []))
-few names wanted None is = inl (rw is refl)
-few names wanted (Some name) is = by (place_of names name) refl
-  where
-    by : (o : Option ℕ) → place_of names name ≡ o → (filter_map (place_of names) wanted ≡ []) ⊎ ((input : ℕ) × (filter_map (place_of names) wanted ≡ input ∷ []))
-    by None at = inl (rw (is, at) refl)
-    by (Some input) at = inr (input, rw (is, at) refl)
-
-item_at : {X : Type 0} (xs : List X) (k : ℕ) → k < length xs → (x : X) × (x ≡ get_or xs k x)
-item_at [] k h = absurd (omega arith)
-item_at (x ∷ xs) zero h = (x, refl)
-item_at (x ∷ xs) (suc k) h = item_at xs k (omega arith)
-
-at_most_one : (flow : RawFlow) → KeepsRules flow → is_built flow ≡ true → AtMostOne (links_of flow)
-at_most_one flow keeps built place =
-    elim (cases_lt place (length (needs_of flow))) [
-      | inl within ↦
-          let there : get_or (links_of flow) place [] ≡ filter_map (place_of (names_of flow)) (get_or (needs_of flow) place []) = get_or-map (filter_map (place_of (names_of flow))) (needs_of flow) place [] [] within in
-          rw there (elim (cases_lt place (length flow.sources)) [
-            | inl early ↦ few (names_of flow) _ None (needs_source flow place early)
-            | inr late ↦
-                let counted = length-needs flow ∙ length-names flow in
-                let k : ℕ = place - length flow.sources in
-                let far : place ≡ length flow.sources + k = omega arith in
-                let near : k < length flow.nodes = omega arith in
-                let item = item_at flow.nodes k near in
-                few (names_of flow) _ item.0.input (needs_node flow place k item.0 far near item.1 keeps built)
-          ])
-      | inr past ↦ inl (get_or_past (links_of flow) place [] (rw length-map past))
-    ]
-
-bound : {X Y F : Type 0} (r : Result X F) (k : X → Result Y F) (y : Y) → (r >>= k) ≡ Ok y → (x : X) × (r ≡ Ok x) × (k x ≡ Ok y)
-bound (Ok x) k y e = (x, refl, e)
-bound (Err f) k y e = absurd (cc)
-
-pub flow_tree_of : (flow : RawFlow) (whole : Tree) (nodes : List Node) → KeepsRules flow → IsTrue (is_built flow) → graph_of flow ≡ Ok whole → typed flow ≡ Ok nodes → tree_of nodes ≡ whole
+pub made_of : (raw : RawFlow) (places : Tree ℕ) (flow : TypedFlow) (t : Tree Node) → graph_of raw ≡ Ok places → typed raw ≡ Ok flow
+    → tree_of flow.nodes ≡ Some t → seen_tree number_of t ≡ places
 unfolding typed
-flow_tree_of flow whole nodes keeps built graph read =
-    let tree : typed_tree flow whole ≡ Ok nodes = rw graph at read in
-    let names = bound (names_differ (names_of flow)) _ whole graph in
-    let inputs = bound (inputs_exist (names_of flow) (needs_of flow)) _ whole names.2 in
-    let root = bound (root_at flow.table.input (place_of (names_of flow) flow.table.input)) _ whole inputs.2 in
-    let once = bound (used_once root.0 (links_of flow)) _ whole root.2 in
-    let reached = bound (all_reached root.0 (links_of flow)) _ whole once.2 in
-    let same : flow_tree root.0 (links_of flow) ≡ whole = cc in
-    rw (← same) (tree_is flow (links_of flow) refl (at_most_one flow keeps built) (length (links_of flow) - 1) root.0 nodes (rw same tree))
+made_of raw places flow t graph read is =
+    let whole = bound (typed_tree raw places) _ flow (rw graph at read) in
+    let nodes : in_order whole.0 ≡ flow.nodes = let same = whole.2 in cc in
+    let numbers = tree_numbers raw places whole.0 whole.1 in
+    let same : whole.0 ≡ t = same_Some _ _ (sym (tree_made whole.0 numbers.1) ∙ (ap tree_of nodes ∙ is)) in
+    rw (← same) numbers.0
+
+-- a flow has nodes
+pub some_nodes : (flow : TypedFlow) → IsFlow flow → 1 ≤ length flow.nodes
+some_nodes flow is = rw (← is.all) (some_in is.tree)
+
+numbers_count : (q : ℕ) (nodes : List Node) → count_by (λ p. p == q) (map number_of nodes) ≡ count_by (λ n. number_of n == q) nodes
+numbers_count q [] = refl
+numbers_count q (n ∷ nodes) =
+    sum_by-cons (λ p. cond (p == q) 1 0) (number_of n) (map number_of nodes) ∙ ap (λ count. cond (number_of n == q) 1 0 + count) (numbers_count q nodes)
+    ∙ sym (sum_by-cons (λ m. cond (number_of m == q) 1 0) n nodes)
+
+-- the nodes that were typed of a tree whose places come once are a flow
+pub flow_of : (raw : RawFlow) (places : Tree ℕ) (nodes : List Node) → nodes_in (typed_tree raw places) ≡ Ok nodes → IsTreeOf nodes
+    → ComeOnce (in_order places) → length (in_order places) ≤ 80 → IsFlow (record { nodes = nodes; key = None })
+flow_of raw places nodes typed is once few =
+    let t = read (typed_tree raw places) nodes typed in
+    let numbers : map number_of nodes ≡ in_order places =
+    ap (map number_of) (sym t.2) ∙ sym (seen_in_order number_of t.0) ∙ ap in_order (tree_numbers raw places t.0 t.1).0 in
+    let count : length (map number_of nodes) ≡ length nodes = rw length-map refl in
+    record {
+      tree = is.tree;
+      all = is.all;
+      made = ap tree_of (sym is.all) ∙ tree_made is.tree (linked_has is.tree is.linked);
+      linked = is.linked;
+      apart = λ q. rw (← numbers_count q nodes, numbers) (once q);
+      few = rw (← count, numbers) few;
+    }
+
+pub alone_in : (flow : TypedFlow) (is : IsFlow flow) → trees_in count_inputs flow.nodes ≡ is.tree ∷ []
+alone_in flow is = ap (trees_in count_inputs) (sym is.all) ∙ trees_in-tree count_inputs is.tree (counts is.tree (linked_has is.tree is.linked))
+
+pub root_at : (flow : TypedFlow) (is : IsFlow flow) → root_in flow.nodes ≡ Some (root_of is.tree)
+root_at flow is = ap root_in (sym is.all) ∙ root_in-tree is.tree
+
+pub root_ints : (flow : TypedFlow) → IsFlow flow → (n : Node) → root_in flow.nodes ≡ Some n → All IsInt n.schema
+root_ints flow is n at = subst (λ (m : Node). All IsInt m.schema) (same_Some _ _ (sym (root_at flow is) ∙ at)) (tree_ints is.tree is.linked)
+
+mutual
+  ints_in : (t : Tree Node) → EachNode IsLinkedOver t → All (λ n. All IsInt n.schema) (in_order t)
+  ints_in (node n trees) linked =
+      All-append (λ m. All IsInt m.schema) (all_in_order trees) (n ∷ []) (all_ints_in trees linked.1)
+      (All-cons (λ m. All IsInt m.schema) n [] linked.0.ints (All-nil (λ m. All IsInt m.schema)))
+
+  all_ints_in : (trees : Trees Node) → EachNodeBelow IsLinkedOver trees → All (λ n. All IsInt n.schema) (all_in_order trees)
+  all_ints_in no_trees linked = All-nil (λ m. All IsInt m.schema)
+  all_ints_in (tree first rest) linked =
+      All-append (λ m. All IsInt m.schema) (in_order first) (all_in_order rest) (ints_in first linked.0) (all_ints_in rest linked.1)
+
+-- the columns of each node of a flow are whole numbers
+pub all_ints : (flow : TypedFlow) → IsFlow flow → All (λ n. All IsInt n.schema) flow.nodes
+all_ints flow is = subst (All (λ (n : Node). All IsInt n.schema)) is.all (ints_in is.tree is.linked)
+
+adds : (b : Bool) → b ≡ true → (let count : ℕ = cond b 1 0 in count) ≡ 1
+adds b is = rw is refl
+
+counted : (nodes : List Node) (k : ℕ) (m : Node) (q : ℕ) → slice_get nodes k ≡ Some m → number_of m ≡ q → 1 ≤ count_by (λ n. number_of n == q) nodes
+counted [] k m q is same = absurd (cc)
+counted (n ∷ nodes) zero m q is same =
+    let here : n ≡ m = same_Some _ _ is in
+    let one = adds (number_of n == q) (eq-eqb (number_of n) q (ap number_of here ∙ same)) in
+    let sum = sum_by-cons (λ x. cond (number_of x == q) 1 0) n nodes in
+    omega arith
+counted (n ∷ nodes) (suc k) m q is same =
+    let rest = counted nodes k m q is same in
+    let sum = sum_by-cons (λ x. cond (number_of x == q) 1 0) n nodes in
+    omega arith
+
+found : (nodes : List Node) (k : ℕ) (n : Node) → AreApart nodes → slice_get nodes k ≡ Some n → find (λ m. number_of m == number_of n) nodes ≡ Some n
+found [] k n apart is = absurd (cc)
+found (x ∷ nodes) zero n apart is =
+    let here : x ≡ n = same_Some _ _ is in
+    rw (eq-eqb (number_of x) (number_of n) (ap number_of here)) (ap Some here)
+found (x ∷ nodes) (suc k) n apart is = elim (eqb_tells (number_of x) (number_of n)) [
+  | inl same ↦
+      let one = adds (number_of x == number_of n) same.0 in
+      let rest = counted nodes k n (number_of n) is refl in
+      let sum = sum_by-cons (λ y. cond (number_of y == number_of n) 1 0) x nodes in
+      let most = apart (number_of n) in
+      absurd (omega arith)
+  | inr other ↦
+      rw other.0
+      (found nodes k n (λ q. let sum = sum_by-cons (λ y. cond (number_of y == q) 1 0) x nodes in let most = apart q in omega arith) is)
+]
+
+pub found_in : (flow : TypedFlow) → IsFlow flow → (place : ℕ) (n : Node) → slice_get flow.nodes place ≡ Some n → node_of flow n.id ≡ Some n
+found_in flow is place n at = found flow.nodes place n is.apart at

@@ -7,7 +7,10 @@ pub mod Reached
 pub mod OneInput
 pub mod Links
 pub mod TypedTrees
-pub mod Chains
 pub mod Columns
-pub mod NodeTrees
+pub mod NodeNames
+pub mod Made
+pub mod Once
 pub mod FlowTrees
+pub mod Linking
+pub mod Ranks

@@ -1,7 +1,7 @@
 -- The input of a selection or a projection.
 use Rattle.std.proofs.Common.{◌≡◌, ℕ, zero, suc, ◌+◌, ◌<◌, ◌≤◌, List, [], ◌∷◌, length, map, filter_map, get_or, codes, bytes_eq, Bool, true, false, is_some, is_none, refl, ap, sym, ◌∙◌, ◌⊎◌, inl, inr, Option, Some, None, option_to_list, arith}
 use Rattle.std.specs.List.{list_all}
-use Rattle.std.proofs.lemmas.Bool.{and_parts, or_cases, cases_Bool, both_ways}
+use Rattle.std.proofs.lemmas.Bool.{and_parts, cases_Bool, both_ways}
 use Rattle.std.proofs.lemmas.List.Folds.{list_all_at}
 use Rattle.std.proofs.lemmas.List.{append-nil, length-map, length-append, get_or-map, get_or_append_left, get_or-append-add, get_or_past}
 use Rattle.std.proofs.lemmas.Slice.Eq.{bytes_eq-Decides}
@@ -10,7 +10,7 @@ use Rattle.workflow_file.specs.declared.raw.RawFlow.{RawFlow}
 use Rattle.tuple_schema.specs.Texts.{is_among}
 use Rattle.workflow_file.specs.Nodes.{keys_of}
 use Rattle.workflow_file.specs.Kept.{KeepsNode, KeepsRules}
-use Rattle.flow_types.specs.Built.{is_built_node, is_built_select, is_project, is_built}
+use Rattle.flow_types.specs.Built.{is_built_node, is_built}
 use Rattle.flow_types.specs.Graph.{input_names, names_of, needs_of, links_of, links_in}
 use Rattle.flow_types.specs.Trees.{inputs_below}
 use Rattle.plain_where.specs.Truths.{place_of}
@@ -24,9 +24,12 @@ no_other_input kind (inr is) = rw is (refl, refl, refl)
 
 kind_is : (n : RawNode) → is_built_node n ≡ true → (n.kind ≡ codes "select") ⊎ (n.kind ≡ codes "project")
 kind_is n built =
-    elim (or_cases (is_built_select n) (is_project n) (and_parts (is_none n.declare) _ built).1) [
-      | inl select ↦ inl ((bytes_eq-Decides n.kind (codes "select")).0 (and_parts (bytes_eq n.kind (codes "select")) _ select).0)
-      | inr project ↦ inr ((bytes_eq-Decides n.kind (codes "project")).0 project)
+    elim (cases_Bool (bytes_eq n.kind (codes "select"))) [
+      | inl select ↦ inl ((bytes_eq-Decides n.kind (codes "select")).0 select)
+      | inr other ↦ elim (cases_Bool (bytes_eq n.kind (codes "project"))) [
+        | inl project ↦ inr ((bytes_eq-Decides n.kind (codes "project")).0 project)
+        | inr neither ↦ let none : false ≡ true = rw (other, neither) at (and_parts (is_none n.declare) _ built).1 in absurd (cc)
+      ]
     ]
 
 is_absent : {X : Type 0} (o : Option X) → is_some o ≡ false → o ≡ None

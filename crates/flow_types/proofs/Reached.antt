@@ -1,5 +1,5 @@
 -- Which nodes the table's input reaches.
-use Rattle.std.proofs.Common.{◌≡◌, ℕ, zero, suc, ◌-◌, ◌<◌, ◌≤◌, ◌==◌, List, [], ◌∷◌, ◌++◌, length, take, drop, get_or, slice_set, Bool, true, false, not, ◌||◌, refl, ap, sym, inl, inr, Option, Ok, Err, arith, sub-one}
+use Rattle.std.proofs.Common.{◌≡◌, ℕ, zero, suc, ◌-◌, ◌<◌, ◌≤◌, ◌==◌, List, [], ◌∷◌, ◌++◌, length, map, take, drop, get_or, slice_set, Bool, true, false, not, ◌||◌, refl, ap, sym, inl, inr, Option, Ok, Err, arith, sub-one}
 use Rattle.std.proofs.Math.Bool.{or_assoc}
 use Rattle.std.proofs.Math.Seq.{take-append_seam}
 use Rattle.std.proofs.lemmas.List.{length-map, append-nil, get_or-set_other}
@@ -7,12 +7,13 @@ use Rattle.std.proofs.lemmas.List.Folds.{list_any-append}
 use Rattle.std.proofs.lemmas.Grind.{get_or-set_at}
 use Rattle.std.proofs.lemmas.Bool.Decides.{eqb_tells}
 use Rattle.flow_types.specs.declared.fault.SchemaCause.TheVariants as cause
-use Rattle.flow_types.specs.Trees.{node, trees_of, tree_below, inputs_below, in_order}
+use Rattle.list_algebra.specs.Trees.{node, trees_of, in_order}
+use Rattle.flow_types.specs.Trees.{tree_below, inputs_below}
 use Rattle.flow_types.specs.Graph.{links_in, flow_tree, is_in, all_reached, fault_at}
 use Rattle.flow_types.proofs.Places.{least_is, least_none}
 
 -- a tree is its node over the trees of the inputs that it has
-pub tree_split : (links : List (List ℕ)) (depth place : ℕ) → tree_below links depth place ≡ node place (trees_of (tree_below links (depth - 1)) (inputs_below links depth place))
+pub tree_split : (links : List (List ℕ)) (depth place : ℕ) → tree_below links depth place ≡ node place (trees_of (map (tree_below links (depth - 1)) (inputs_below links depth place)))
 unfolding tree_below
 tree_split links zero place = refl
 tree_split links (suc depth) place = rw sub-one refl

@@ -1,11 +1,11 @@
 -- Which flows are built at this stage.
-use Rattle.std.specs.Prelude.{ℕ, List, codes, bytes_eq, Bool, true, ◌&&◌, ◌||◌, is_some, is_none, Option, Some, None, option_and_then}
+use Rattle.std.specs.Prelude.{ℕ, List, codes, bytes_eq, Bool, true, ◌&&◌, is_some, is_none, Option, Some, None}
 use Rattle.std.specs.List.{list_all}
 use Rattle.workflow_file.specs.declared.raw.RawSource.{RawSource}
 use Rattle.workflow_file.specs.declared.raw.RawNode.{RawNode}
 use Rattle.workflow_file.specs.declared.raw.RawFlow.{RawFlow}
 use Rattle.flow_types.specs.Columns.{is_int_column}
-use Rattle.plain_where.specs.Texts.{expression_of}
+use Rattle.flow_types.specs.NodeTexts.{text_of}
 
 -- the format is CSV, by name or by default
 abbrev pub is_csv : Option (List ℕ) → Bool
@@ -18,17 +18,9 @@ is_built_source s =
     (is_csv s.format && is_none s.header)
     && (bytes_eq s.promise (codes "seq") && list_all is_int_column s.columns)
 
--- a selection whose expression is built
-abbrev pub is_built_select : RawNode → Bool
-is_built_select n = bytes_eq n.kind (codes "select") && is_some (option_and_then expression_of n.test)
-
--- a projection
-abbrev pub is_project : RawNode → Bool
-is_project n = bytes_eq n.kind (codes "project")
-
--- a selection or a projection that declares nothing
+-- a node that declares nothing, of a kind that is built
 abbrev pub is_built_node : RawNode → Bool
-is_built_node n = is_none n.declare && (is_built_select n || is_project n)
+is_built_node n = is_none n.declare && is_some (text_of n)
 
 -- a table without a key, over such sources and nodes
 abbrev pub is_built : RawFlow → Bool

@@ -1,7 +1,8 @@
 -- A flow as a graph: its nodes by place, sources first, the inputs of each, and what may be wrong with these.
-use Rattle.std.specs.Prelude.{ℕ, ◌-◌, ◌==◌, ◌<◌, All, IfSome, List, [], ◌∷◌, ◌++◌, length, map, filter_map, get_or, count_by, Bool, not, is_some, nat_lt, Option, Some, None, option_map, option_and_then, option_to_list, unwrap_or, Result, Ok, Err}
+use Rattle.std.specs.Prelude.{ℕ, ◌-◌, ◌==◌, ◌<◌, ◌≤◌, All, IfSome, List, [], ◌∷◌, ◌++◌, length, map, filter_map, get_or, count_by, Bool, not, is_some, nat_lt, Option, Some, None, option_map, option_and_then, option_to_list, unwrap_or, Result, Ok, Err}
 use Rattle.std.specs.List.{concat, list_any}
 use Rattle.tuple_schema.specs.Stops.{◌>>=◌}
+use Rattle.list_algebra.specs.Trees.{Tree, in_order}
 use Rattle.workflow_file.specs.declared.raw.RawNode.{RawNode}
 use Rattle.workflow_file.specs.declared.raw.RawFlow.{RawFlow}
 use Rattle.plain_where.specs.Truths.{place_of}
@@ -10,7 +11,7 @@ use Rattle.flow_types.specs.declared.fault.SchemaCause.{SchemaCause}
 use Rattle.flow_types.specs.declared.fault.SchemaCause.TheVariants as cause
 use Rattle.flow_types.specs.declared.fault.SchemaFault.{SchemaFault}
 use Rattle.flow_types.specs.Names.{least, again, unknown, refused}
-use Rattle.flow_types.specs.Trees.{Tree, tree_below, in_order}
+use Rattle.flow_types.specs.Trees.{tree_below}
 
 -- the names of the nodes: the sources, then the others, each in the order of the file
 abbrev pub names_of : RawFlow → List (List ℕ)
@@ -67,11 +68,11 @@ used_once root links =
     (least (length links) (λ place. nat_lt 1 (uses_of root links place))))
 
 -- the tree of a flow, which is at most so many nodes deep as there are
-abbrev pub flow_tree : ℕ → List (List ℕ) → Tree
+abbrev pub flow_tree : ℕ → List (List ℕ) → Tree ℕ
 flow_tree root links = tree_below links (length links - 1) root
 
 -- the node is in the tree
-abbrev pub is_in : Tree → ℕ → Bool
+abbrev pub is_in : Tree ℕ → ℕ → Bool
 is_in tree place = list_any (λ p. p == place) (in_order tree)
 
 -- the table's input reaches each node, or the least that it doesn't
@@ -81,7 +82,7 @@ all_reached root links =
     (least (length links) (λ place. not (is_in (flow_tree root links) place))))
 
 -- the tree of a flow whose names fit together, or the first fault
-abbrev pub graph_of : RawFlow → Result Tree SchemaFault
+abbrev pub graph_of : RawFlow → Result (Tree ℕ) SchemaFault
 graph_of flow = do
   _ ← names_differ (names_of flow)
   _ ← inputs_exist (names_of flow) (needs_of flow)
@@ -97,3 +98,7 @@ links_in inputs = map option_to_list inputs
 -- each input is a node
 abbrev pub AreWithin : List (Option ℕ) → Type 0
 AreWithin inputs = All (λ input. IfSome input (λ place. place < length inputs)) inputs
+
+-- none of these places comes twice
+abbrev pub ComeOnce : List ℕ → Type 0
+ComeOnce places = (place : ℕ) → count_by (λ p. p == place) places ≤ 1

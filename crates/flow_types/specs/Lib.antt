@@ -2,7 +2,8 @@ pub mod Columns
 pub mod Names
 pub mod Trees
 pub mod Graph
+pub mod NodeTexts
 pub mod Built
+pub mod Flows
 pub mod Typed
-pub mod Chain
-pub mod NodeTrees
+pub mod Linked

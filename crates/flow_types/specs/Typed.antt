@@ -1,24 +1,24 @@
 -- The typed flow: the columns and the kind of each node, or its first fault.
-use Rattle.std.specs.Prelude.{ℕ, ◌-◌, List, [], ◌∷◌, ◌++◌, length, map, filter_map, flat_map, slice_get, codes, bytes_eq, unwrap_or, if◌then◌else◌, Option, Some, None, option_map, option_and_then, option_to_list, Result, Ok, Err}
+use Rattle.std.specs.Prelude.{ℕ, List, [], ◌∷◌, ◌++◌, map, filter_map, slice_get, unwrap_or, Option, Some, None, option_map, option_and_then, option_to_list, Result, Ok, Err}
 use Rattle.tuple_schema.specs.Stops.{◌>>=◌}
+use Rattle.list_algebra.specs.Trees.{Tree, node, Trees, no_trees, tree, roots_of, in_order}
 use Rattle.tuple_schema.specs.declared.schema.Column.{Column}
 use Rattle.workflow_file.specs.declared.raw.RawSource.{RawSource}
-use Rattle.workflow_file.specs.declared.raw.RawNode.{RawNode}
 use Rattle.workflow_file.specs.declared.raw.RawFlow.{RawFlow}
 use Rattle.tuple_schema.specs.Texts.{head_of, rest_of}
 use Rattle.flow_types.specs.Columns.{int_column}
 use Rattle.plain_where.specs.declared.expr.Expr.{Expr}
-use Rattle.plain_where.specs.Texts.{expression_of}
 use Rattle.plain_where.specs.Truths.{place_of}
 use Rattle.flow_types.specs.declared.fault.SchemaCause.{SchemaCause}
 use Rattle.flow_types.specs.declared.fault.SchemaCause.TheVariants as cause
-use Rattle.flow_types.specs.declared.fault.NodeId.{NodeId}
 use Rattle.flow_types.specs.declared.fault.SchemaFault.{SchemaFault}
 use Rattle.flow_types.specs.declared.node.Node.{Node}
+use Rattle.flow_types.specs.declared.node.Kind.{Kind}
 use Rattle.flow_types.specs.declared.node.Kind.TheVariants as kind
-use Rattle.flow_types.specs.Names.{names_in, no_double, no_unknown, cols_if}
-use Rattle.flow_types.specs.Trees.{Tree, node, Trees, no_trees, tree}
-use Rattle.flow_types.specs.Graph.{id_of, fault_at, graph_of}
+use Rattle.flow_types.specs.Names.{name_at, names_in, no_double, no_unknown, cols_if}
+use Rattle.flow_types.specs.Flows.{TypedFlow, root_in, columns_in, columns_of, ids_of}
+use Rattle.flow_types.specs.NodeTexts.{NodeText, source, select, project, text_at}
+use Rattle.flow_types.specs.Graph.{names_of, id_of, fault_at, graph_of}
 
 -- the name that a column gets from `NAME` or `NAME as NAME`: what follows the second space, or the name itself
 abbrev pub name_from : List ℕ → Option (List ℕ) → List ℕ
@@ -44,10 +44,6 @@ output_column columns text = option_map (renamed (new_name text)) (column_of col
 abbrev pub output_columns : List Column → List (List ℕ) → List Column
 output_columns columns texts = filter_map (output_column columns) texts
 
--- what is no node of a flow: it isn't built, or nothing stands there or below it
-abbrev pub no_node : Result Node SchemaCause
-no_node = Err cause.NotReached
-
 -- the columns of a source's key, and those by which it is grouped: first, no column comes twice
 abbrev pub source_cols : List (List ℕ) → RawSource → Result (Option (List ℕ) × Option (List ℕ)) SchemaCause
 source_cols names s = do
@@ -56,30 +52,17 @@ source_cols names s = do
   grouped ← cols_if names s.grouped
   Ok (key, grouped)
 
--- a source
-abbrev pub typed_source : NodeId → RawSource → Result Node SchemaCause
-typed_source id s = do
+-- the kind and the columns of a source
+abbrev pub typed_source : RawSource → Result (Kind × List Column) SchemaCause
+typed_source s = do
   cols ← source_cols (names_in (map int_column s.columns)) s
-  Ok (record {
-    id = id;
-    name = s.name;
-    kind = kind.Source (record { file = s.file; key = cols.0; grouped = cols.1 });
-    inputs = [];
-    schema = map int_column s.columns;
-  })
+  Ok (kind.Source (record { file = s.file; key = cols.0; grouped = cols.1 }), map int_column s.columns)
 
--- a selection over its input: its column has to be there
-abbrev pub typed_select : NodeId → RawNode → Node → Option Expr → Result Node SchemaCause
-typed_select id n input None = no_node
-typed_select id n input (Some test) = do
-  _ ← no_unknown (names_in input.schema) (test.column ∷ [])
-  Ok (record {
-    id = id;
-    name = n.name;
-    kind = kind.Select test;
-    inputs = input.id ∷ [];
-    schema = input.schema;
-  })
+-- those of a selection from these columns: its own has to be there
+abbrev pub typed_select : Expr → List Column → Result (Kind × List Column) SchemaCause
+typed_select test columns = do
+  _ ← no_unknown (names_in columns) (test.column ∷ [])
+  Ok (kind.Select test, columns)
 
 -- the places that a projection takes, and its columns: they have to be there, and have names of their own
 abbrev pub projection : List Column → List (List ℕ) → Result (List ℕ × List Column) SchemaCause
@@ -88,69 +71,70 @@ projection columns texts = do
   _ ← no_double (names_in (output_columns columns texts))
   Ok (filter_map (place_of (names_in columns)) (map head_of texts), output_columns columns texts)
 
--- a projection of its input
-abbrev pub typed_project : NodeId → RawNode → Node → Option (List (List ℕ)) → Result Node SchemaCause
-typed_project id n input None = no_node
-typed_project id n input (Some texts) = do
-  taken ← projection input.schema texts
-  Ok (record {
-    id = id;
-    name = n.name;
-    kind = kind.Project taken.0;
-    inputs = input.id ∷ [];
-    schema = taken.1;
-  })
+-- those of a projection of these columns
+abbrev pub typed_project : List (List ℕ) → List Column → Result (Kind × List Column) SchemaCause
+typed_project texts columns = do
+  taken ← projection columns texts
+  Ok (kind.Project taken.0, taken.1)
 
--- a node over its input, by its kind
-abbrev pub typed_over : NodeId → RawNode → Option Node → Result Node SchemaCause
-typed_over id n None = no_node
-typed_over id n (Some input) =
-    if bytes_eq n.kind (codes "select") then typed_select id n input (option_and_then expression_of n.test)
-    else if bytes_eq n.kind (codes "project") then typed_project id n input n.columns
-    else no_node
+-- the kind and the columns of a node that says this, over inputs with these columns
+abbrev pub typed_text : NodeText → List (List Column) → Result (Kind × List Column) SchemaCause
+typed_text (source s) inputs = typed_source s
+typed_text (select test) inputs = typed_select test (columns_in inputs 0)
+typed_text (project texts) inputs = typed_project texts (columns_in inputs 0)
 
--- the source or the node at a place, over its inputs
-abbrev pub typed_at : NodeId → Option RawSource → Option RawNode → List Node → Result Node SchemaCause
-typed_at id (Some s) n inputs = typed_source id s
-typed_at id None (Some n) inputs = typed_over id n (slice_get inputs 0)
-typed_at id None None inputs = no_node
+-- the same of what stands at a place, if something does
+abbrev pub typed_at : Option NodeText → List (List Column) → Result (Kind × List Column) SchemaCause
+typed_at None inputs = Err cause.NotReached
+typed_at (Some text) inputs = typed_text text inputs
 
+-- the node at a place, over its inputs
 abbrev pub typed_node : RawFlow → ℕ → List Node → Result Node SchemaCause
-typed_node flow place inputs =
-    typed_at (id_of place) (slice_get flow.sources place) (slice_get flow.nodes (place - length flow.sources)) inputs
+typed_node flow place inputs = do
+  made ← typed_at (text_at flow place) (columns_of inputs)
+  Ok (record {
+    id = id_of place;
+    name = name_at (names_of flow) place;
+    kind = made.0;
+    inputs = ids_of inputs;
+    schema = made.1;
+    declared = [];
+  })
 
 -- a cause at a place is the fault of the node there
 abbrev pub at_node : {X : Type 0} → ℕ → Result X SchemaCause → Result X SchemaFault
 at_node place (Ok x) = Ok x
 at_node place (Err why) = Err (fault_at place why)
 
--- the last node of a list
-abbrev pub last_of : List Node → Option Node
-last_of nodes = slice_get nodes (length nodes - 1)
-
 -- these nodes, and the one at a place behind them, over the last of them
 abbrev pub typed_last : RawFlow → ℕ → List Node → Result (List Node) SchemaFault
 typed_last flow place nodes = do
-  last ← at_node place (typed_node flow place (option_to_list (last_of nodes)))
+  last ← at_node place (typed_node flow place (option_to_list (root_in nodes)))
   Ok (nodes ++ last ∷ [])
 
 abbrev mutual
-  -- the typed nodes of a tree: those of its inputs' trees, then the node itself over the last of each
-  pub typed_tree : RawFlow → Tree → Result (List Node) SchemaFault
+  -- the typed tree: the trees of its inputs, and then the node itself over the roots of these
+  pub typed_tree : RawFlow → Tree ℕ → Result (Tree Node) SchemaFault
   typed_tree flow (node place trees) = do
     inputs ← typed_trees flow trees
-    last ← at_node place (typed_node flow place (filter_map last_of inputs))
-    Ok (flat_map (λ nodes. nodes) inputs ++ last ∷ [])
+    top ← at_node place (typed_node flow place (roots_of inputs))
+    Ok (node top inputs)
 
-  pub typed_trees : RawFlow → Trees → Result (List (List Node)) SchemaFault
-  typed_trees flow no_trees = Ok []
+  pub typed_trees : RawFlow → Trees ℕ → Result (Trees Node) SchemaFault
+  typed_trees flow no_trees = Ok no_trees
   typed_trees flow (tree first rest) = do
-    nodes ← typed_tree flow first
+    one ← typed_tree flow first
     others ← typed_trees flow rest
-    Ok (nodes ∷ others)
+    Ok (tree one others)
 
--- the typed nodes of a flow whose names fit together, inputs first and the table's input last, or the first fault
-unfoldable pub typed : RawFlow → Result (List Node) SchemaFault
+-- the nodes of a typed tree, inputs first
+abbrev pub nodes_in : Result (Tree Node) SchemaFault → Result (List Node) SchemaFault
+nodes_in (Ok whole) = Ok (in_order whole)
+nodes_in (Err fault) = Err fault
+
+-- the typed flow of a raw one whose names fit together, or the first fault
+unfoldable pub typed : RawFlow → Result TypedFlow SchemaFault
 typed flow = do
-  whole ← graph_of flow
-  typed_tree flow whole
+  places ← graph_of flow
+  whole ← typed_tree flow places
+  Ok (record { nodes = in_order whole; key = None })

@@ -1,8 +1,9 @@
 // Which flows are built at this stage.
-ghost use Rattle.std.specs.Prelude.{◌≡◌};
+ghost use Rattle.std.specs.Prelude.{◌≡◌, is_some};
 ghost use Rattle.std.specs.List.{list_all};
 ghost use Rattle.flow_types.specs.Columns.{is_int_column};
-ghost use Rattle.flow_types.specs.Built.{is_csv, is_built_source, is_built_select, is_project, is_built_node, is_built};
+ghost use Rattle.flow_types.specs.Built.{is_csv, is_built_source, is_built_node, is_built};
+ghost use Rattle.flow_types.specs.NodeTexts.{text_of};
 
 use tuple_schema::Text;
 use workflow_file::{RawFlow, RawNode, RawSource};
@@ -64,20 +65,21 @@ fn is_int_column(text: &Text) -> bool
     }
 }
 
-fn is_built_select(node: &RawNode) -> bool
-    ensures { result ≡ is_built_select node.now }
-{
-    if node.kind.as_str() != "select" {
-        return false;
-    }
-    match &node.test {
-        None => false,
-        Some(test) => plain_where::is_built(test.as_str()),
-    }
-}
-
 fn is_built_node(node: &RawNode) -> bool
     ensures { result ≡ is_built_node node.now }
 {
-    node.declare.is_none() && (is_built_select(node) || node.kind.as_str() == "project")
+    node.declare.is_none() && has_text(node)
+}
+
+// Whether the node's kind is built, and it has what that needs.
+fn has_text(node: &RawNode) -> bool
+    ensures { result ≡ is_some (text_of node.now) }
+{
+    if node.kind.as_str() == "select" {
+        return match &node.test {
+            None => false,
+            Some(test) => plain_where::is_built(test.as_str()),
+        };
+    }
+    node.kind.as_str() == "project" && node.columns.is_some()
 }

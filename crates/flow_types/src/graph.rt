@@ -4,8 +4,9 @@ ghost use Rattle.tuple_schema.specs.Stops.{Gives, GivesView, IfFault};
 ghost use Rattle.workflow_file.specs.Kept.{KeepsRules};
 ghost use Rattle.plain_where.specs.Truths.{place_of};
 ghost use Rattle.flow_types.specs.Built.{is_built};
+ghost use Rattle.list_algebra.specs.Trees.{in_order};
 ghost use Rattle.flow_types.specs.Trees.{tree_below, inputs_below};
-ghost use Rattle.flow_types.specs.Graph.{names_of, needs_of, links_of, links_in, AreWithin, fault_at, input_fault, inputs_exist, root_at, uses_of, used_once, is_in, all_reached, flow_tree, graph_of};
+ghost use Rattle.flow_types.specs.Graph.{names_of, needs_of, links_of, links_in, AreWithin, fault_at, input_fault, inputs_exist, root_at, uses_of, used_once, is_in, all_reached, flow_tree, graph_of, ComeOnce};
 
 use crate::fault::{NodeId, SchemaCause, SchemaFault};
 use crate::named::Places;
@@ -28,6 +29,8 @@ pub fn read_graph(alloc: Global, raw: &RawFlow) -> Result<Graph, Stop<SchemaFaul
     ensures links { IfOk result (λ g. links_in g.links.items ≡ links_of raw.now) }
     ensures within { IfOk result (λ g. AreWithin g.links.items) }
     ensures root { IfOk result (λ g. g.root < vec_len g.links) }
+    ensures few { IfOk result (λ g. length (in_order (flow_tree g.root (links_in g.links.items))) ≤ 80) }
+    ensures once { IfOk result (λ g. ComeOnce (in_order (flow_tree g.root (links_in g.links.items)))) }
 {
     let names = names_of(alloc, raw)?;
     let places = Places::of(alloc, &names)?;

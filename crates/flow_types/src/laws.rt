@@ -1,25 +1,28 @@
 // The tree of a flow.
-ghost use Rattle.std.specs.Prelude.{◌≡◌, Some, Ok, List, IsTrue, option_map};
+ghost use Rattle.std.specs.Prelude.{◌≡◌, ℕ, [], ◌∷◌, Some, Ok, slice_get};
 ghost use Rattle.workflow_file.specs.declared.raw.RawFlow.{RawFlow};
-ghost use Rattle.workflow_file.specs.Kept.{KeepsRules};
+ghost use Rattle.list_algebra.specs.Trees.{Tree, root_of, seen_tree, trees_in, EachNext};
 ghost use Rattle.flow_types.specs.declared.node.Node.{Node};
-ghost use Rattle.flow_types.specs.Built.{is_built};
-ghost use Rattle.flow_types.specs.Trees.{Tree, in_order};
 ghost use Rattle.flow_types.specs.Graph.{graph_of};
-ghost use Rattle.flow_types.specs.NodeTrees.{number_of, numbers_of, tree_of};
-ghost use Rattle.flow_types.specs.Typed.{last_of, typed};
-ghost use Rattle.flow_types.specs.Chain.{IsChain};
+ghost use Rattle.flow_types.specs.Flows.{TypedFlow, number_of, count_inputs, tree_of, root_in, node_of};
+ghost use Rattle.flow_types.specs.Typed.{typed};
+ghost use Rattle.flow_types.specs.Linked.{IsLinkedOver, IsFlow};
 
-/// The tree of a flow has its nodes, and its names make it. It does nothing: its contract is the laws.
+/// The tree of a flow. It does nothing: its contract is the laws.
 pub fn tree_laws()
-    // Inputs first, the tree has the nodes in the order of the flow, and no other.
-    ensures nodes { (nodes : List Node) → IsChain nodes → in_order (tree_of nodes) ≡ numbers_of nodes }
+    // The numbers of its nodes make the tree that the names in the raw flow make.
+    ensures made { (raw : RawFlow) (places : Tree ℕ) (flow : TypedFlow) (t : Tree Node) → graph_of raw ≡ Ok places
+        → typed raw ≡ Ok flow
+        → tree_of flow.nodes ≡ Some t → seen_tree number_of t ≡ places }
 
-    // Its root is the last node.
-    ensures root { (nodes : List Node) → IsChain nodes → option_map (λ n. n.id.0) (last_of nodes)
-        ≡ Some (number_of (tree_of nodes)) }
+    // Its nodes make its tree alone, and the root is the last of them.
+    ensures alone { (flow : TypedFlow) (is : IsFlow flow) → trees_in count_inputs flow.nodes ≡ is.tree ∷ [] }
+    ensures root { (flow : TypedFlow) (is : IsFlow flow) → root_in flow.nodes ≡ Some (root_of is.tree) }
 
-    // It is the tree that the names in the raw flow make, where they fit together.
-    ensures made { (raw : RawFlow) (whole : Tree) (nodes : List Node) → KeepsRules raw → IsTrue (is_built raw)
-        → graph_of raw ≡ Ok whole → typed raw ≡ Ok nodes → tree_of nodes ≡ whole }
+    // Each node is found by its number.
+    ensures found { (flow : TypedFlow) → IsFlow flow → (place : ℕ) (n : Node) → slice_get flow.nodes place ≡ Some n
+        → node_of flow n.id ≡ Some n }
+
+    // Each node stands over the trees of its inputs, when it comes behind the nodes before it.
+    ensures next { (flow : TypedFlow) → IsFlow flow → EachNext count_inputs IsLinkedOver [] flow.nodes }
 {}

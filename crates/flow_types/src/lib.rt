@@ -1,12 +1,13 @@
 //! Typed flows: names looked up, the columns of each node found, or the first fault in them.
 //!
-//! Stands on `workflow_file`, whose raw flows it types, on `plain_where`, and on `indexmap`, which numbers the
-//! names; `kind_laws` gives the nodes their meaning. Read `specs/Graph.antt` first, how nodes are named and
-//! reached, then `specs/Typed.antt`, their columns and the order of faults, `specs/Chain.antt`, what each flow
-//! is, and `specs/NodeTrees.antt`, its tree. Built at this stage are sequences of whole numbers, selections and
-//! projections: `is_built`. Promised: `type_flow` answers the typed flow or its first fault; every `Flow` is a
-//! chain from a source; `tree_laws`: its tree has its nodes, and is the one that the names in the file make.
-//! Not promised: that memory is found.
+//! Stands on `workflow_file`, whose raw flows it types, on `plain_where`, on `list_algebra`, which has the trees,
+//! and on `indexmap`, which numbers the names; `kind_laws` gives the nodes their meaning. Read `specs/Graph.antt`
+//! first, how nodes are named and reached, then `specs/Typed.antt`, their columns and the order of faults,
+//! `specs/Flows.antt`, a flow and its tree, and `specs/Linked.antt`, what holds of each flow. Built at this stage
+//! are sequences of whole numbers, selections and projections: `is_built`. Promised: `type_flow` answers the typed
+//! flow or its first fault; every `Flow` is the nodes of one tree, inputs first, no two of one number, each over the
+//! columns of its inputs; `tree_laws`: the nodes make their tree, and its numbers the tree that the names in the
+//! file make. Not promised: that memory is found.
 #![tactic(auto)]
 
 mod built;
@@ -17,6 +18,7 @@ mod laws;
 mod named;
 mod names;
 mod node;
+mod node_text;
 mod typing;
 
 pub use built::is_built;

@@ -5,7 +5,7 @@ use crate::fault::NodeId;
 use plain_where::Expr;
 use std::alloc::Global;
 use std::marker::Model;
-use tuple_schema::{Memory, Schema, Text};
+use tuple_schema::{Memory, Names, Schema, Text};
 
 /// A list of places of columns. A contract sees it as that list.
 #[derive(Debug, Drop)]
@@ -104,4 +104,6 @@ pub struct Node {
     pub kind: Kind,
     pub inputs: Inputs,
     pub schema: Schema,
+    /// What it declares, as texts; a source declares nothing.
+    pub declared: Names,
 }

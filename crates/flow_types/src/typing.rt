@@ -1,26 +1,30 @@
 // The columns and kinds of nodes.
-ghost use Rattle.std.specs.Prelude.{◌≡◌, ◌<◌, ◌≤◌, ◌+◌, ℕ, [], ◌∷◌, Some, None, Ok, map, length, filter_map, option_and_then, option_copied, option_to_list, IfOk, IfSome, OnOk, All};
+ghost use Rattle.std.specs.Prelude.{◌≡◌, ◌<◌, ◌≤◌, ◌+◌, ℕ, List, [], ◌∷◌, Some, None, Ok, map, length, filter_map, option_copied, option_to_list, IsTrue, IfOk, IfSome, OnOk, All};
 ghost use Rattle.tuple_schema.specs.Stops.{Gives, GivesView, IfFault};
+ghost use Rattle.tuple_schema.specs.declared.schema.Column.{Column as ColumnValue};
 ghost use Rattle.tuple_schema.specs.Schemas.{IsSchema};
 ghost use Rattle.tuple_schema.specs.Texts.{head_of, rest_of};
-ghost use Rattle.workflow_file.specs.Kept.{KeepsRules, KeepsSource, KeepsNode};
-ghost use Rattle.flow_types.specs.Columns.{int_column, IsInt};
-ghost use Rattle.plain_where.specs.Texts.{expression_of};
+ghost use Rattle.workflow_file.specs.Kept.{KeepsRules, KeepsSource};
 ghost use Rattle.plain_where.specs.Truths.{place_of};
-ghost use Rattle.flow_types.specs.Names.{names_in, unknown, no_double, no_unknown};
+ghost use Rattle.flow_types.specs.Columns.{int_column, IsInt};
+ghost use Rattle.flow_types.specs.Names.{names_in, no_double, no_unknown};
 ghost use Rattle.flow_types.specs.Trees.{tree_below};
 ghost use Rattle.flow_types.specs.Graph.{id_of, links_of, links_in, AreWithin};
-ghost use Rattle.flow_types.specs.Typed.{new_name, renamed, output_columns, source_cols, projection, typed_source, typed_select, typed_project, typed_over, typed_node, at_node, typed_last, typed_tree};
-ghost use Rattle.flow_types.specs.Chain.{Takes, IsNode, IsChainFrom, IsChain};
+ghost use Rattle.flow_types.specs.Built.{is_built};
+ghost use Rattle.flow_types.specs.NodeTexts.{text_seen};
+ghost use Rattle.flow_types.specs.Flows.{ids_of, columns_of, columns_in};
+ghost use Rattle.flow_types.specs.Typed.{new_name, renamed, output_columns, source_cols, projection, typed_source, typed_select, typed_project, typed_text, typed_node, at_node, typed_last, typed_tree, nodes_in};
+ghost use Rattle.flow_types.specs.Linked.{Takes, KeepsText, IsTyped, IsLinked, AreInputs, IsTreeOf};
 
 use crate::fault::{NodeId, SchemaCause, SchemaFault};
 use crate::graph::{fault_at, link_below};
 use crate::names::{cols_if, names_in, no_double, place_of};
 use crate::node::{Cols, Inputs, Kind, Node, Source};
+use crate::node_text::{NodeText, name_at, text_at};
 use plain_where::Expr;
 use std::alloc::Global;
-use tuple_schema::{Column, ColumnKind, Memory, Schema, Stop, Text, rest_of};
-use workflow_file::{RawFlow, RawNode, RawSource};
+use tuple_schema::{Column, ColumnKind, Memory, Names, Schema, Stop, Text, rest_of};
+use workflow_file::{RawFlow, RawSource};
 
 /// The typed nodes of a tree, inputs first, or the first fault.
 pub fn type_tree(
@@ -31,11 +35,13 @@ pub fn type_tree(
     place: usize,
 ) -> Result<Vec<Node>, Stop<SchemaFault>>
     requires kept { KeepsRules raw.now }
+    requires built { IsTrue (is_built raw.now) }
     requires links { links_in links.now ≡ links_of raw.now }
     requires within { AreWithin links.now }
     requires place { place < length links.now }
-    ensures nodes { GivesView (λ v. v.items) result (typed_tree raw.now (tree_below (links_in links.now) depth place)) }
-    ensures chain { IfOk result (λ v. IsChain v.items) }
+    ensures nodes { GivesView (λ v. v.items) result (nodes_in
+        (typed_tree raw.now (tree_below (links_in links.now) depth place))) }
+    ensures tree { IfOk result (λ v. IsTreeOf v.items) }
 {
     match link_below(links, depth, place) {
         None => type_last(alloc, raw, place, Vec::new(alloc)),
@@ -54,11 +60,12 @@ fn type_last(
     mut nodes: Vec<Node>,
 ) -> Result<Vec<Node>, Stop<SchemaFault>>
     requires kept { KeepsRules raw.now }
+    requires built { IsTrue (is_built raw.now) }
     requires place { place < length raw.now.sources + length raw.now.nodes }
     requires source { place < length raw.now.sources → nodes.items ≡ [] }
-    requires chain { IsChainFrom None nodes.items }
+    requires inputs { AreInputs nodes.items }
     ensures nodes { GivesView (λ v. v.items) result (typed_last raw.now place nodes.items) }
-    ensures chain { IfOk result (λ v. IsChain v.items) }
+    ensures tree { IfOk result (λ v. IsTreeOf v.items) }
 {
     let node = type_node(alloc, raw, place, nodes.as_slice().last())?;
     nodes.push(node)?;
@@ -73,12 +80,13 @@ fn type_node(
     input: Option<&Node>,
 ) -> Result<Node, Stop<SchemaFault>>
     requires kept { KeepsRules raw.now }
+    requires built { IsTrue (is_built raw.now) }
     requires place { place < length raw.now.sources + length raw.now.nodes }
     requires source { place < length raw.now.sources → option_copied input ≡ None }
     requires ints { IfSome (option_copied input) (λ n. All IsInt n.schema) }
     ensures node { Gives result (at_node place (typed_node raw.now place
         (option_to_list (option_copied input.entry)))) }
-    ensures follows { IfOk result (IsNode (option_copied input.entry)) }
+    ensures linked { IfOk result (λ n. IsLinked n (option_to_list (option_copied input.entry))) }
 {
     match type_at(alloc, raw, place, input) {
         Ok(node) => Ok(node),
@@ -94,18 +102,23 @@ fn type_at(
     input: Option<&Node>,
 ) -> Result<Node, Stop<SchemaCause>>
     requires kept { KeepsRules raw.now }
+    requires built { IsTrue (is_built raw.now) }
     requires place { place < length raw.now.sources + length raw.now.nodes }
     requires source { place < length raw.now.sources → option_copied input ≡ None }
     requires ints { IfSome (option_copied input) (λ n. All IsInt n.schema) }
     ensures node { Gives result (typed_node raw.now place (option_to_list (option_copied input.entry))) }
-    ensures follows { IfOk result (IsNode (option_copied input.entry)) }
+    ensures linked { IfOk result (λ n. IsLinked n (option_to_list (option_copied input.entry))) }
 {
-    let sources = raw.sources.items();
-    let nodes = raw.nodes.items();
-    if place < sources.len() {
-        return type_source(alloc, id_of(place), &sources[place]);
-    }
-    type_over(alloc, id_of(place), &nodes[place - sources.len()], input)
+    let text = text_at(alloc, raw, place)?;
+    let typed = type_text(alloc, text, columns_of(input))?;
+    Ok(Node {
+        id: id_of(place),
+        name: name_at(raw, place).copy()?,
+        kind: typed.kind,
+        inputs: inputs_of(alloc, input)?,
+        schema: typed.schema,
+        declared: Names::new(alloc),
+    })
 }
 
 // The node's number.
@@ -116,19 +129,63 @@ fn id_of(place: usize) -> NodeId
     NodeId(place as u8)
 }
 
-fn type_source(alloc: Global, id: NodeId, source: &RawSource) -> Result<Node, Stop<SchemaCause>>
+// The number of the input, if there is one.
+fn inputs_of(alloc: Global, input: Option<&Node>) -> Result<Inputs, Memory>
+    ensures { IfOk result (λ i. i ≡ ids_of (option_to_list (option_copied input.entry))) }
+{
+    match input {
+        None => Ok(Inputs::none(alloc)),
+        Some(input) => Inputs::one(alloc, input.id),
+    }
+}
+
+// The columns of the input: none, where there is no input.
+fn columns_of(input: Option<&Node>) -> &[Column]
+    ensures columns { result.now ≡ columns_in (columns_of (option_to_list (option_copied input.entry))) 0 }
+    ensures schema { 1 ≤ length result.now → IsSchema result.now }
+{
+    match input {
+        None => &[],
+        Some(input) => input.schema.columns(),
+    }
+}
+
+// The kind of a node, and the columns that it gives.
+#[derive(Drop)]
+struct Typed {
+    kind: Kind,
+    schema: Schema,
+}
+
+// What a node is that says this, over an input with these columns, or over none.
+fn type_text(
+    alloc: Global,
+    text: NodeText<'_>,
+    columns: &[Column],
+) -> Result<Typed, Stop<SchemaCause>>
+    requires kept { KeepsText (text_seen text) }
+    requires schema { 1 ≤ length columns.now → IsSchema columns.now }
+    requires ints { All IsInt columns.now }
+    ensures typed { GivesView (λ t. (t.kind, t.schema)) result (typed_text (text_seen text.entry) (columns.now ∷ [])) }
+    ensures made { IfOk result (λ t. IsTyped columns.now t.kind t.schema) }
+{
+    match text {
+        NodeText::Source(source) => type_source(alloc, source),
+        NodeText::Select(test) => type_select(alloc, test, columns),
+        NodeText::Project(texts) => type_project(alloc, columns, texts),
+    }
+}
+
+fn type_source(alloc: Global, source: &RawSource) -> Result<Typed, Stop<SchemaCause>>
     requires { KeepsSource source.now }
-    ensures node { Gives result (typed_source id source.now) }
-    ensures first { IfOk result (IsNode None) }
+    ensures typed { GivesView (λ t. (t.kind, t.schema)) result (typed_source source.now) }
+    ensures made { IfOk result (λ t. (others : List ColumnValue) → IsTyped others t.kind t.schema) }
 {
     let columns = int_columns(alloc, source.columns.items())?;
     let (key, grouped) = source_cols(alloc, &columns, source)?;
     let file = source.file.copy()?;
-    Ok(Node {
-        id,
-        name: source.name.copy()?,
+    Ok(Typed {
         kind: Kind::Source(Source { file, key, grouped }),
-        inputs: Inputs::none(alloc),
         schema: Schema::of(columns),
     })
 }
@@ -193,51 +250,29 @@ fn source_cols(
     Ok((key, grouped))
 }
 
-// A selection or a projection over its input.
-fn type_over(
-    alloc: Global,
-    id: NodeId,
-    node: &RawNode,
-    input: Option<&Node>,
-) -> Result<Node, Stop<SchemaCause>>
-    requires kept { KeepsNode node.now }
-    requires ints { IfSome (option_copied input) (λ n. All IsInt n.schema) }
-    ensures node { Gives result (typed_over id node.now (option_copied input.entry)) }
-    ensures follows { IfOk result (IsNode (option_copied input.entry)) }
+fn type_select(alloc: Global, test: Expr, columns: &[Column]) -> Result<Typed, Stop<SchemaCause>>
+    requires schema { 1 ≤ length columns.now → IsSchema columns.now }
+    requires ints { All IsInt columns.now }
+    ensures typed { GivesView (λ t. (t.kind, t.schema)) result (typed_select test columns.now) }
+    ensures made { IfOk result (λ t. IsTyped columns.now t.kind t.schema) }
 {
-    let Some(input) = input else {
-        return Err(Stop::Fault(SchemaCause::NotReached));
-    };
-    if node.kind.as_str() == "select" {
-        return type_select(alloc, id, node, input);
-    }
-    if node.kind.as_str() == "project" {
-        return type_project(alloc, id, node, input);
-    }
-    Err(Stop::Fault(SchemaCause::NotReached))
+    find_column(alloc, columns, &test.column)?;
+    let columns = copied(alloc, columns)?;
+    Ok(Typed {
+        kind: Kind::Select { test },
+        schema: Schema::of(columns),
+    })
 }
 
-fn type_select(
-    alloc: Global,
-    id: NodeId,
-    node: &RawNode,
-    input: &Node,
-) -> Result<Node, Stop<SchemaCause>>
-    requires { All IsInt input.now.schema }
-    ensures node { Gives result (typed_select id node.now input.now (option_and_then expression_of node.now.test)) }
-    ensures follows { IfOk result (IsNode (Some input.now)) }
+// The same columns.
+fn copied(alloc: Global, columns: &[Column]) -> Result<Vec<Column>, Memory>
+    ensures { IfOk result (λ v. v.items ≡ columns.now) }
 {
-    let Some(test) = test_of(alloc, node)? else {
-        return Err(Stop::Fault(SchemaCause::NotReached));
-    };
-    find_column(alloc, input.schema.columns(), &test.column)?;
-    Ok(Node {
-        id,
-        name: node.name.copy()?,
-        kind: Kind::Select { test },
-        inputs: Inputs::one(alloc, input.id)?,
-        schema: input.schema.copy()?,
-    })
+    let mut copies = Vec::new(alloc);
+    for column in columns {
+        copies.push(column.copy()?)?;
+    }
+    Ok(copies)
 }
 
 // Refuses a name that no column has.
@@ -252,39 +287,22 @@ fn find_column(alloc: Global, columns: &[Column], name: &Text) -> Result<(), Sto
     Err(Stop::Fault(SchemaCause::UnknownColumn { column }))
 }
 
-// The node's expression.
-fn test_of(alloc: Global, node: &RawNode) -> Result<Option<Expr>, Memory>
-    ensures { IfOk result (λ test. test ≡ option_and_then expression_of node.now.test) }
-{
-    match &node.test {
-        None => Ok(None),
-        Some(text) => plain_where::parse(alloc, text.as_str()),
-    }
-}
-
 fn type_project(
     alloc: Global,
-    id: NodeId,
-    node: &RawNode,
-    input: &Node,
-) -> Result<Node, Stop<SchemaCause>>
-    requires some { IfSome node.now.columns (λ texts. 1 ≤ length texts) }
-    requires few { IfSome node.now.columns (λ texts. length texts ≤ 64) }
-    requires ints { All IsInt input.now.schema }
-    ensures node { Gives result (typed_project id node.now input.now node.now.columns) }
-    ensures follows { IfOk result (IsNode (Some input.now)) }
+    columns: &[Column],
+    texts: &[Text],
+) -> Result<Typed, Stop<SchemaCause>>
+    requires some { 1 ≤ length texts.now }
+    requires few { length texts.now ≤ 64 }
+    requires ints { All IsInt columns.now }
+    ensures typed { GivesView (λ t. (t.kind, t.schema)) result (typed_project texts.now columns.now) }
+    ensures made { IfOk result (λ t. IsTyped columns.now t.kind t.schema) }
 {
-    let Some(texts) = &node.columns else {
-        return Err(Stop::Fault(SchemaCause::NotReached));
-    };
-    let taken = projection(alloc, input.schema.columns(), texts.items())?;
-    Ok(Node {
-        id,
-        name: node.name.copy()?,
+    let taken = projection(alloc, columns, texts)?;
+    Ok(Typed {
         kind: Kind::Project {
             from: Cols::of(taken.places),
         },
-        inputs: Inputs::one(alloc, input.id)?,
         schema: Schema::of(taken.columns),
     })
 }

@@ -1,3 +1,2 @@
-pub mod Chains
 pub mod Rows
-pub mod Lists
+pub mod Stacks

@@ -1,6 +1,6 @@
 -- Rows of whole numbers, and their parts.
 use Rattle.std.proofs.Common.{◌≡◌, ◌∙◌, ℕ, ℤ, zero, suc, ◌+◌, ◌<◌, List, [], ◌∷◌, ◌++◌, length, length-append, slice_get, filter, map, All, Bool, true, false, ◌&&◌, Option, Some, None, IsTrue, refl, ap, sym, subst, arith}
-use Rattle.std.proofs.lemmas.List.Elements.{All-head, All-tail, All-weaker, All-map, All-filter}
+use Rattle.std.proofs.lemmas.List.Elements.{All-nil, All-head, All-tail, All-weaker, All-map, All-filter}
 use Rattle.tuple_schema.specs.declared.value.Value.{Value}
 use Rattle.tuple_schema.specs.declared.value.Value.TheVariants as value
 use Rattle.tuple_schema.specs.declared.schema.Column.{Column}
@@ -9,11 +9,14 @@ use Rattle.tuple_schema.specs.declared.schema.ColumnKind.TheVariants as kind
 use Rattle.tuple_schema.specs.Schemas.{Fits, fits, is_of}
 use Rattle.tuple_schema.specs.Tuples.{part}
 use Rattle.flow_types.specs.Columns.{IsInt}
-use Rattle.flow_types.specs.Chain.{Takes, IsOver}
+use Rattle.flow_types.specs.declared.node.Node.{Node}
+use Rattle.flow_types.specs.Flows.{columns_in, columns_of}
+use Rattle.flow_types.specs.Linked.{Takes, IsOver, IsLinked}
 use Rattle.plain_where.specs.Truths.{truth_of}
 use Rattle.flow_types.specs.declared.node.Kind.{Kind}
 use Rattle.flow_types.specs.declared.node.Kind.TheVariants as node
-use Rattle.kind_laws.specs.Outputs.{is_true, projected, only, output_of}
+use Rattle.kind_laws.specs.Outputs.{is_true, projected, list_in, output_of}
+use Rattle.kind_laws.specs.Laws.{FitAll, CanTake}
 
 and-left : (a b : Bool) → (a && b) ≡ true → a ≡ true
 and-left true b h = refl
@@ -79,17 +82,49 @@ projected_fit columns output from rows ints outs is fit =
     All-map (λ row. Fits output row) (λ row. part row from) rows
     (All-weaker (λ row. Fits columns row) (λ row. Fits output (part row from)) (λ row fits. part_fits columns output from row ints outs fits is.within is.each) rows fit)
 
--- the rows that a node gives fit its columns
-pub output_fits : (input output : List Column) (k : Kind) (rows : List (List Value)) → IsOver input k output → All IsInt input → All IsInt output
-    → All (λ row. Fits input row) rows → All (λ row. Fits output row) (output_of k output (rows ∷ []))
-output_fits input output (node.Source source) rows over ints outs fit = absurd over
-output_fits input output (node.Select test) rows over ints outs fit =
-    rw over.0 (All-filter (λ row. is_true (truth_of test input row)) (λ row. Fits input row) rows fit)
-output_fits input output (node.Project from) rows over ints outs fit = projected_fit input output from rows ints outs over fit
-
 -- of one list the last is the only one
-pub only_last : (lists front : List (List (List Value))) (rows : List (List Value)) → lists ≡ front ++ rows ∷ [] → length lists ≡ 1 → only lists ≡ rows
-only_last lists [] rows is one = ap only is
+pub only_last : (lists front : List (List (List Value))) (rows : List (List Value)) → lists ≡ front ++ rows ∷ [] → length lists ≡ 1 → list_in lists 0 ≡ rows
+only_last lists [] rows is one = ap (λ ls. list_in ls 0) is
 only_last lists (other ∷ front) rows is one =
     let len : length lists ≡ suc (length front + 1) = ap length is ∙ ap suc (length-append front (rows ∷ [])) in
     absurd (omega (arith, len, one))
+
+-- as many lists fit as there are columns for
+fit_count : (columns : List (List Column)) (lists : List (List (List Value))) → FitAll columns lists → length lists ≡ length columns
+fit_count [] [] fit = refl
+fit_count [] (rows ∷ lists) fit = absurd fit
+fit_count (cols ∷ columns) [] fit = absurd fit
+fit_count (cols ∷ columns) (rows ∷ lists) fit = ap suc (fit_count columns lists fit.1)
+
+-- the first list fits the first columns
+first_fit : (columns : List (List Column)) (lists : List (List (List Value))) → length columns ≡ 1 → FitAll columns lists → All (Fits (columns_in columns 0)) (list_in lists 0)
+first_fit [] lists one fit = absurd (omega arith)
+first_fit (cols ∷ columns) [] one fit = absurd fit
+first_fit (cols ∷ columns) (rows ∷ lists) one fit = fit.0
+
+first_ints : (inputs : List Node) → length (columns_of inputs) ≡ 1 → All (λ input. All IsInt input.schema) inputs → All IsInt (columns_in (columns_of inputs) 0)
+first_ints [] one ints = absurd (omega arith)
+first_ints (n ∷ inputs) one ints = All-head (λ input. All IsInt input.schema) n inputs ints
+
+-- the rows that a node gives fit its columns
+over_fits : (inputs : List Node) (lists : List (List (List Value))) (columns : List Column) → All (λ input. All IsInt input.schema) inputs → All IsInt columns → FitAll (columns_of inputs) lists
+    → (k : Kind) → IsOver k (columns_of inputs) columns → All (Fits columns) (output_of k (columns_of inputs) lists)
+over_fits [] [] columns ints own fit (node.Source file) over = All-nil (Fits columns)
+over_fits [] (rows ∷ lists) columns ints own fit (node.Source file) over = absurd fit
+over_fits (n ∷ inputs) lists columns ints own fit (node.Source file) over = let none = ap length over in absurd (omega arith)
+over_fits inputs lists columns ints own fit (node.Select test) over =
+    let one : length (columns_of inputs) ≡ 1 = ap length over.0 in
+    let first : columns_in (columns_of inputs) 0 ≡ columns = ap (λ cs. columns_in cs 0) over.0 in
+    rw (← first) (All-filter (λ row. is_true (truth_of test (columns_in (columns_of inputs) 0) row)) (Fits (columns_in (columns_of inputs) 0)) (list_in lists 0) (first_fit (columns_of inputs) lists one fit))
+over_fits inputs lists columns ints own fit (node.Project from) over =
+    projected_fit (columns_in (columns_of inputs) 0) columns from (list_in lists 0) (first_ints inputs over.0 ints) own over.1 (first_fit (columns_of inputs) lists over.0 fit)
+
+pub output_fits : (n : Node) (inputs : List Node) (lists : List (List (List Value))) → CanTake n inputs lists → All (Fits n.schema) (output_of n.kind (columns_of inputs) lists)
+output_fits n inputs lists takes = over_fits inputs lists n.schema takes.ints takes.linked.ints takes.fit n.kind takes.linked.over
+
+-- what a projection takes has the places
+pub project_within : (n : Node) (inputs : List Node) (lists : List (List (List Value))) (from : List ℕ) → CanTake n inputs lists → n.kind ≡ node.Project from
+    → (length lists ≡ 1) × All (λ row. All (λ place. place < length row) from) (list_in lists 0)
+project_within n inputs lists from takes is =
+    let over : IsOver (node.Project from) (columns_of inputs) n.schema = subst (λ k. IsOver k (columns_of inputs) n.schema) is takes.linked.over in
+    (fit_count (columns_of inputs) lists takes.fit ∙ over.0, places_within (columns_in (columns_of inputs) 0) from (list_in lists 0) over.1.within (first_fit (columns_of inputs) lists over.0 takes.fit))

@@ -1,41 +1,33 @@
 -- The meaning of a flow on whole lists: each node's list from those of its inputs, up to the root.
-use Rattle.std.specs.Prelude.{ℕ, ◌==◌, List, [], ◌∷◌, map, fold, Bool, true, false, if◌then◌else◌}
-use Rattle.tuple_schema.specs.declared.value.Value.{Value}
-use Rattle.flow_types.specs.declared.node.Kind.{Kind}
-use Rattle.flow_types.specs.declared.node.Kind.TheVariants as kind
+use Rattle.std.specs.Prelude.{List, [], ◌∷◌, get_or, Option, option_map}
+use Rattle.list_algebra.specs.Bags.{Tuple}
+use Rattle.list_algebra.specs.Trees.{Tree, node, Trees, no_trees, tree, roots_of}
 use Rattle.flow_types.specs.declared.node.Node.{Node}
-use Rattle.kind_laws.specs.Outputs.{output_of, only}
+use Rattle.flow_types.specs.Flows.{number_of, columns_of, tree_of}
+use Rattle.kind_laws.specs.Outputs.{output_of}
 
--- the list of a node, beside the node's number
-pub record Listed : Type 0 where
-  pub number : ℕ
-  pub rows : List (List Value)
+-- a list for each node: of a truth or a listing, those of the sources count
+abbrev pub Lists : Type 0
+Lists = Node → List Tuple
 
--- the list that the node of this number has, the last one listed first
-abbrev pub list_of : List Listed → ℕ → List (List Value)
-list_of [] number = []
-list_of (listed ∷ others) number = if listed.number == number then listed.rows else list_of others number
+-- the lists of sources, one for each in the order of the file, whose numbers come first
+abbrev pub by_number : List (List Tuple) → Lists
+by_number lists n = get_or lists (number_of n) []
 
--- the list that a node gives: a source what its file has, any other what its kind makes of its inputs' lists
-abbrev pub list_from : (ℕ → List (List Value)) → List Listed → Node → Kind → List (List Value)
-list_from truth lists node (kind.Source source) = truth node.id.0
-list_from truth lists node (kind.Select test) = output_of (kind.Select test) node.schema
-    (map (λ input. list_of lists input.0) node.inputs)
-list_from truth lists node (kind.Project from) = output_of (kind.Project from) node.schema
-    (map (λ input. list_of lists input.0) node.inputs)
+-- the lists that a node takes: those of its inputs, and where it has none, as a source, its own
+abbrev pub taken : List Tuple → List (List Tuple) → List (List Tuple)
+taken own [] = own ∷ []
+taken own (first ∷ others) = first ∷ others
 
--- the lists of the nodes, each behind its inputs; the last one comes first
-abbrev pub with_node : (ℕ → List (List Value)) → List Listed → Node → List Listed
-with_node truth lists node = record { number = node.id.0; rows = list_from truth lists node node.kind } ∷ lists
+abbrev mutual
+  -- the list of a tree whose sources have these: what its node makes of the lists of its inputs
+  pub list_of : Lists → Tree Node → List Tuple
+  list_of truth (node n trees) = output_of n.kind (columns_of (roots_of trees)) (taken (truth n) (lists_of truth trees))
 
-unfoldable pub lists_of : (ℕ → List (List Value)) → List Node → List Listed
-lists_of truth nodes = fold (with_node truth) [] nodes
+  pub lists_of : Lists → Trees Node → List (List Tuple)
+  lists_of truth no_trees = []
+  lists_of truth (tree first rest) = list_of truth first ∷ lists_of truth rest
 
--- the list of the node that was listed last
-abbrev pub last_list : List Listed → List (List Value)
-last_list [] = []
-last_list (listed ∷ others) = listed.rows
-
--- the meaning of a flow whose sources have these lists, each by its number: the list of the root
-abbrev pub whole_of : List Node → (ℕ → List (List Value)) → List (List Value)
-whole_of nodes truth = last_list (lists_of truth nodes)
+-- the meaning of a flow whose sources have these lists: the list of the root
+abbrev pub whole_of : List Node → Lists → Option (List Tuple)
+whole_of nodes truth = option_map (list_of truth) (tree_of nodes)

@@ -1,38 +1,55 @@
 // The meaning of a flow.
-ghost use Rattle.std.specs.Prelude.{◌≡◌, [], ◌∷◌, All, IfOk, IfSome, slice_get};
+ghost use Rattle.std.specs.Prelude.{◌≡◌, ◌-◌, [], Some, All, IfOk, IfSome, get_or, slice_set, length};
 ghost use Rattle.tuple_schema.specs.Schemas.{Fits};
-ghost use Rattle.flow_types.specs.Typed.{last_of};
-ghost use Rattle.kind_laws.specs.Wholes.{whole_of};
-ghost use Rattle.kind_laws.specs.Outputs.{output_of};
-ghost use Rattle.kind_laws.specs.Laws.{AreLinked};
+ghost use Rattle.flow_types.specs.Flows.{root_in};
+ghost use Rattle.kind_laws.specs.Wholes.{by_number, whole_of};
+ghost use Rattle.kind_laws.specs.Laws.{SourcesFit};
 
 use crate::transform::{Law, Transform};
-use flow_types::Flow;
+use flow_types::{Flow, Kind, NodeId, tree_laws};
 use std::alloc::Global;
+use std::mem::replace;
 use tuple_schema::{Memory, Tuples};
 
-/// The meaning of a flow whose source has these rows, by plain evaluation, node by node.
-pub fn whole(alloc: Global, flow: &Flow, source: Tuples) -> Result<Tuples, Memory>
-    requires { IfSome (slice_get flow.now 0) (λ first. All (λ row. Fits first.schema row) source) }
-    ensures whole { IfOk result (λ rows. rows ≡ whole_of flow.now (λ number. source)) }
-    ensures fit { IfOk result (λ rows. IfSome (last_of flow.now) (λ root. All (λ row. Fits root.schema row) rows)) }
+/// The meaning of a flow whose sources have these lists, one for each in the order of the file, by plain
+/// evaluation: each node takes the lists of its inputs, which are the last ones that were made.
+pub fn whole(alloc: Global, flow: &Flow, mut sources: Vec<Tuples>) -> Result<Tuples, Memory>
+    requires { SourcesFit flow.now.nodes (by_number sources.items) }
+    ensures whole { IfOk result (λ rows. whole_of flow.now.nodes (by_number sources.items) ≡ Some rows) }
+    ensures fit { IfOk result (λ rows. IfSome (root_in flow.now.nodes) (λ root. All (Fits root.schema) rows)) }
 {
-    let mut rows = source;
-    for place in 1..flow.nodes().len() {
-        rows = step(alloc, Law::of(flow, place), rows)?;
+    tree_laws();
+    let mut inputs = Vec::new(alloc);
+    let mut lists = Vec::new(alloc);
+    for node in flow.nodes() {
+        let rows = match &node.kind {
+            Kind::Source(_) => take_list(alloc, &mut sources, node.id),
+            _ => {
+                let at = lists.len() - node.inputs.nodes().len();
+                let law = Law {
+                    node,
+                    inputs: inputs.split_off(at)?,
+                };
+                law.out(alloc, lists.split_off(at)?)?
+            }
+        };
+        inputs.push(node)?;
+        lists.push(rows)?;
     }
-    Ok(rows)
+    match lists.pop() {
+        Some(rows) => Ok(rows),
+        None => Ok(Tuples::new(alloc)),
+    }
 }
 
-// What a node makes of the rows of its input.
-fn step(alloc: Global, law: Law<'_>, input: Tuples) -> Result<Tuples, Memory>
-    requires linked { AreLinked law.input.now law.node.now }
-    requires fit { All (λ row. Fits law.input.now.schema row) input }
-    ensures output { IfOk result (λ rows. rows ≡ output_of law.entry.node.now.kind law.entry.node.now.schema
-        (input ∷ [])) }
-    ensures fit { IfOk result (λ rows. All (λ row. Fits law.entry.node.now.schema row) rows) }
+// The list of the source, which is no longer kept here.
+fn take_list(alloc: Global, sources: &mut Vec<Tuples>, source: NodeId) -> Tuples
+    ensures list { result ≡ get_or sources.old.items source.0 [] }
+    ensures others { sources.new.items ≡ slice_set sources.old.items source.0 [] }
 {
-    let mut lists = Vec::new(alloc);
-    lists.push(input)?;
-    law.out(alloc, lists)
+    let place = source.0 as usize;
+    if place >= sources.len() {
+        return Tuples::new(alloc);
+    }
+    replace(&mut sources[place], Tuples::new(alloc))
 }

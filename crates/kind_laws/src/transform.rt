@@ -1,16 +1,12 @@
 // The nodes of a flow as transforms of whole lists.
-ghost use Rattle.std.specs.Prelude.{◌≡◌, ◌≤◌, ◌<◌, ◌-◌, Some, length, slice_get, IfOk};
-ghost use Rattle.flow_types.specs.declared.node.Node.{Node};
-ghost use Rattle.kind_laws.specs.Laws.{AreLinked};
-
 use crate::kinds::{project, select};
-use flow_types::{Flow, Kind, Node};
+use flow_types::{Kind, Node};
 use std::alloc::Global;
 use tuple_schema::{Memory, Tuples};
 
 /// What a node makes of the whole lists of its inputs.
 pub trait Transform {
-    ghost use Rattle.std.specs.Prelude.{List};
+    ghost use Rattle.std.specs.Prelude.{◌≡◌, List, IfOk};
     ghost use Rattle.tuple_schema.specs.declared.value.Value.{Value};
 
     /// The list that it makes of these lists.
@@ -25,37 +21,22 @@ pub trait Transform {
         ensures { IfOk result (λ rows. rows ≡ output self.now lists.items) };
 }
 
-/// A node over its input.
-#[derive(Clone, Copy)]
+/// A node that is no source, over its inputs.
+#[derive(Drop)]
 pub struct Law<'a> {
-    pub input: &'a Node,
     pub node: &'a Node,
-}
-
-impl<'a> Law<'a> {
-    /// The law of the node at this place of a flow, which is no source.
-    pub fn of(flow: &'a Flow, place: usize) -> Law<'a>
-        requires some { 1 ≤ place }
-        requires few { place < length flow.now }
-        ensures node { slice_get flow.now place ≡ Some result.node.now }
-        ensures input { slice_get flow.now (place - 1) ≡ Some result.input.now }
-        ensures linked { AreLinked result.input.now result.node.now }
-    {
-        let nodes = flow.nodes();
-        Law {
-            input: &nodes[place - 1],
-            node: &nodes[place],
-        }
-    }
+    pub inputs: Vec<&'a Node>,
 }
 
 impl Transform for Law<'_> {
+    ghost use Rattle.std.specs.Prelude.{map};
+    ghost use Rattle.flow_types.specs.Flows.{columns_of};
     ghost use Rattle.kind_laws.specs.Outputs.{output_of};
-    ghost use Rattle.kind_laws.specs.Laws.{AreInputs};
+    ghost use Rattle.kind_laws.specs.Laws.{CanTake};
 
-    ghost output = { λ law. output_of law.node.now.kind law.node.now.schema };
+    ghost output = { λ law. output_of law.node.now.kind (columns_of (map (λ n. n.now) law.inputs.items)) };
 
-    ghost takes = { λ law. AreInputs law.input.now law.node.now };
+    ghost takes = { λ law. CanTake law.node.now (map (λ n. n.now) law.inputs.items) };
 
     fn out(&self, alloc: Global, mut lists: Vec<Tuples>) -> Result<Tuples, Memory> {
         let Some(rows) = lists.pop() else {
@@ -63,7 +44,7 @@ impl Transform for Law<'_> {
         };
         match &self.node.kind {
             Kind::Source(_) => Ok(rows),
-            Kind::Select { test } => Ok(select(test, &self.node.schema, rows)),
+            Kind::Select { test } => Ok(select(test, &self.inputs[0].schema, rows)),
             Kind::Project { from } => project(alloc, from.places(), rows),
         }
     }

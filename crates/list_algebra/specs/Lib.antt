@@ -1,3 +1,4 @@
 pub mod Bags
 pub mod Outputs
 pub mod Properties
+pub mod Trees

@@ -1,8 +1,10 @@
 pub mod Readings
 pub mod Standings
+pub mod Numbers
 pub mod Steps
-pub mod Chains
 pub mod Tables
 pub mod Begun
 pub mod Ran
 pub mod Loaded
+pub mod Contents
+mod ContentExamples

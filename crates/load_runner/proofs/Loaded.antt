@@ -19,7 +19,7 @@ use Rattle.table_write.specs.Cut.{together}
 use Rattle.table_write.specs.Adds.{with_blocks, AllHaveRoom, IsFullBehind}
 use Rattle.table_write.specs.Rows.{HoldsRows, HoldsFirst}
 use Rattle.flow_types.specs.declared.node.Node.{Node}
-use Rattle.flow_types.specs.Typed.{last_of}
+use Rattle.flow_types.specs.Flows.{root_in}
 use Rattle.load_runner.specs.declared.fault.LoadFault.{LoadFault}
 use Rattle.load_runner.specs.declared.fault.LoadFault.TheVariants as fault
 use Rattle.load_runner.specs.declared.report.Report.{Report}
@@ -165,7 +165,7 @@ module _ (agree : VerdictsAgree) (once : HoldsOnce) (law : BlocksHold) (cuts : C
   by_count : (P : ℕ → Type 0) → P (count_of found_of) → P (length rows_of)
   by_count P = subst P (counted agree once law job told found_of old mid new ran)
 
-  complete : 1 ≤ job.batch → (report : Report) (root : Node) → Some root ≡ last_of job.nodes → IsSettled new → AllAdded job.nodes told job.text job.batch found_of mid.file new.file report
+  complete : 1 ≤ job.batch → (report : Report) (root : Node) → Some root ≡ root_in job.nodes → IsSettled new → AllAdded job.nodes told job.text job.batch found_of mid.file new.file report
       → IsComplete job told rows_of olds_of (gate_of found_of job.text) new report
   complete some report root last settled all =
       let Blocks : ℕ → List (List (List Value)) = λ n. missing_blocks job.batch n all.whole in
@@ -221,7 +221,7 @@ module _ (agree : VerdictsAgree) (once : HoldsOnce) (law : BlocksHold) (cuts : C
         (by_count (λ n. IsStopped mid.file job.text olds_of (missing_blocks job.batch n stops.0) new.may_leave) stops.2);
   }
 
-  leaves : 1 ≤ job.batch → (answer : Answer) (root : Node) → Some root ≡ last_of job.nodes
+  leaves : 1 ≤ job.batch → (answer : Answer) (root : Node) → Some root ≡ root_in job.nodes
       → IfOk answer (λ report. AllAdded job.nodes told job.text job.batch found_of mid.file new.file report)
       → OnOk answer (IsSettled new) → (answer ≡ Err (Fault fault.Full) → IsSettled new) → (answer ≡ Err (Fault fault.Full) → Fills) → (answer ≡ Err (Fault fault.Disk) → StopsAt)
       → (IsUnwritten answer → Spares old new) → ((place : ℕ) → answer ≢ Err (Fault (fault.NotATable place))) → answer ≢ Err (Fault fault.WorkflowDiffers)
@@ -235,7 +235,7 @@ module _ (agree : VerdictsAgree) (once : HoldsOnce) (law : BlocksHold) (cuts : C
   leaves some (Err (Fault (fault.NotATable place))) root last done settled full_settled fills stops unwritten table flow = absurd (table place refl)
   leaves some (Err (Fault fault.WorkflowDiffers)) root last done settled full_settled fills stops unwritten table flow = absurd (flow refl)
 
-  adding : 1 ≤ job.batch → (answer : Answer) (root : Node) → Some root ≡ last_of job.nodes
+  adding : 1 ≤ job.batch → (answer : Answer) (root : Node) → Some root ≡ root_in job.nodes
       → IfOk answer (λ report. AllAdded job.nodes told job.text job.batch found_of mid.file new.file report)
       → OnOk answer (IsSettled new) → (answer ≡ Err (Fault fault.Full) → IsSettled new) → (answer ≡ Err (Fault fault.Full) → Fills) → (answer ≡ Err (Fault fault.Disk) → StopsAt)
       → (IsUnwritten answer → Spares old new) → ((place : ℕ) → answer ≢ Err (Fault (fault.NotATable place))) → answer ≢ Err (Fault fault.WorkflowDiffers)
@@ -250,7 +250,7 @@ module _ (agree : VerdictsAgree) (once : HoldsOnce) (law : BlocksHold) (cuts : C
   }
 
   -- a load that went on, on an honest disk
-  pub went_on : 1 ≤ job.batch → (depot still : DepotState) → depot.files ≡ told → (answer : Answer) (root : Node) → Some root ≡ last_of job.nodes
+  pub went_on : 1 ≤ job.batch → (depot still : DepotState) → depot.files ≡ told → (answer : Answer) (root : Node) → Some root ≡ root_in job.nodes
       → IfOk answer (λ report. AllAdded job.nodes told job.text job.batch found_of mid.file new.file report)
       → OnOk answer (IsSettled new) → (answer ≡ Err (Fault fault.Full) → IsSettled new) → (answer ≡ Err (Fault fault.Full) → Fills) → (answer ≡ Err (Fault fault.Disk) → StopsAt)
       → (IsUnwritten answer → Spares old new) → ((place : ℕ) → answer ≢ Err (Fault (fault.NotATable place))) → answer ≢ Err (Fault fault.WorkflowDiffers)

@@ -22,9 +22,9 @@ none_stored columns gate committed is = same_rows committed [] (sym is)
 
 module _ (agree : VerdictsAgree) (once : HoldsOnce)
     (law : (image text : List ℕ) (columns : List Column) (olds : List Stored) (blocks : List (List (List Value)))
-        (rows : List (List Value)) (ended : Bool) → table_rows columns (16 + length text) olds ≡ Ok rows
-        → Holds image text (with_blocks olds blocks) ended → All (IsRowOf columns) (together blocks)
-        → HoldsRows image text columns (rows ++ together blocks) ended)
+    (rows : List (List Value)) (ended : Bool) → table_rows columns (16 + length text) olds ≡ Ok rows
+    → Holds image text (with_blocks olds blocks) ended → All (IsRowOf columns) (together blocks)
+    → HoldsRows image text columns (rows ++ together blocks) ended)
     (cuts : (batch : ℕ) (rows : List (List Value)) → 1 ≤ batch → IsCut batch rows (cut batch rows)) where
   pub is_step : (file text image : List ℕ) (columns : List Column) (olds : List Stored) (batch : ℕ)
       (whole committed rows : List (List Value)) (ended : Bool) → 1 ≤ batch → batch ≤ 4096
@@ -50,7 +50,7 @@ module _ (agree : VerdictsAgree) (once : HoldsOnce)
       })
   is_step file text image columns olds batch whole committed rows ended some few decodes (inr not_yet) holds =
       let none = none_stored columns (16 + length text) committed
-          (ap (table_rows columns (16 + length text)) (sym not_yet.none) ∙ decodes) in
+      (ap (table_rows columns (16 + length text)) (sym not_yet.none) ∙ decodes) in
       let same = rows_once agree once image text columns rows [] ended false holds (inr (not_yet.is, refl, refl)) in
       let one = same.0 ∙ sym none in
       let two = same.1 in

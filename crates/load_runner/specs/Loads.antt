@@ -11,7 +11,7 @@ use Rattle.table_write.specs.Cut.{together}
 use Rattle.table_write.specs.Adds.{with_blocks, AllHaveRoom, IsFullBehind}
 use Rattle.table_write.specs.Rows.{HoldsRows, HoldsFirst}
 use Rattle.flow_types.specs.declared.node.Node.{Node}
-use Rattle.flow_types.specs.Typed.{last_of}
+use Rattle.flow_types.specs.Flows.{root_in}
 use Rattle.load_runner.specs.declared.fault.LoadFault.{LoadFault}
 use Rattle.load_runner.specs.declared.fault.LoadFault.TheVariants as fault
 use Rattle.load_runner.specs.declared.report.Report.{Report}
@@ -39,7 +39,7 @@ pub record IsComplete (job : Job) (told : Option Files) (committed : List (List 
   pub settled : IsSettled now
   pub room : AllHaveRoom gate (missing_blocks job.batch (length committed) whole)
   pub root : Node
-  pub is_root : last_of job.nodes ≡ Some root
+  pub is_root : root_in job.nodes ≡ Some root
   pub reported : report ≡ report_of root.id (length committed) (length whole)
 
 -- the table is full: so many of the missing blocks have room, and stand behind the old ones, nothing is pending, and

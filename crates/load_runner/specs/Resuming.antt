@@ -9,7 +9,7 @@ use Rattle.commit_disk.specs.declared.attaching.Attached.{Attached}
 use Rattle.commit_disk.specs.Table.{Stored, Holds}
 use Rattle.table_write.specs.Adds.{with_blocks, AllHaveRoom}
 use Rattle.flow_types.specs.declared.node.Node.{Node}
-use Rattle.flow_types.specs.Typed.{last_of}
+use Rattle.flow_types.specs.Flows.{root_in}
 use Rattle.load_runner.specs.declared.fault.LoadFault.{LoadFault}
 use Rattle.load_runner.specs.declared.fault.LoadFault.TheVariants as fault
 use Rattle.load_runner.specs.declared.report.Report.{Report}
@@ -47,4 +47,4 @@ pub record AllAdded (nodes : List Node) (told : Option Files) (text : List ℕ) 
   pub holds : (olds : List Stored) → IsAt found before text olds
       → Holds now text (with_blocks olds (missing_blocks batch (count_of found) whole)) true
   pub room : AllHaveRoom (gate_of found text) (missing_blocks batch (count_of found) whole)
-  pub reported : IfSome (last_of nodes) (λ root. report ≡ report_of root.id (count_of found) (length whole))
+  pub reported : IfSome (root_in nodes) (λ root. report ≡ report_of root.id (count_of found) (length whole))

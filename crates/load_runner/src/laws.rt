@@ -8,6 +8,7 @@ ghost use Rattle.table_write.specs.Rows.{HoldsRows};
 ghost use Rattle.load_runner.specs.Jobs.{missing_blocks};
 ghost use Rattle.load_runner.specs.Safe.{IsGrown};
 ghost use Rattle.load_runner.specs.Histories.{Standing, nothing, IsStep, IsHistory, AllStandFrom};
+
 use commit_disk::{holds_once, verdicts_agree};
 use table_write::{blocks_laws, cut_laws};
 

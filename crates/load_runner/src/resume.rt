@@ -49,14 +49,15 @@ pub fn resume<D: Depot, K: Disk>(
         × IsAt found (K.state disk.old).file text.now olds }
 
     ensures done { IfOk result (λ report. IsTrue (K.state disk.old).honest
-        → AllAdded flow.now (D.state depot.old).files text.now batch found (K.state disk.old).file
+        → AllAdded flow.now.nodes (D.state depot.old).files text.now batch found (K.state disk.old).file
         (K.state disk.new).file report) }
     ensures none { result ≡ Err (stop.Fault fault.NotBuilt) → (files : Files) → (D.state depot.old).files ≡ Some files
-        → whole_in flow.now files ≡ None }
+        → whole_in flow.now.nodes files ≡ None }
     ensures full { result ≡ Err (stop.Fault fault.Full) → (whole : List (List Value))
-        × IsMeaning flow.now (D.state depot.old).files whole
+        × IsMeaning flow.now.nodes (D.state depot.old).files whole
         × ((count : ℕ) × IsFullBehind (gate_of found text.now) (missing_blocks batch (count_of found) whole) count
-        × All (IsRowOf (root_columns flow.now)) (together (take count (missing_blocks batch (count_of found) whole)))
+        × All (IsRowOf (root_columns flow.now.nodes))
+        (together (take count (missing_blocks batch (count_of found) whole)))
         × (IsTrue (K.state disk.old).honest → (olds : List Stored) → IsAt found (K.state disk.old).file text.now olds
         → Holds (K.state disk.new).file text.now (with_blocks olds
         (take count (missing_blocks batch (count_of found) whole))) false)) }
@@ -74,9 +75,9 @@ pub fn resume<D: Depot, K: Disk>(
     ensures any_moment { IsTrue (K.state disk.old).honest → IsSettled (K.state disk.old)
         → (olds : List Stored) → IsAt found (K.state disk.old).file text.now olds
         → OnlyReads (K.state disk.old) (K.state disk.new) ⊎ ((whole : List (List Value))
-        × IsMeaning flow.now (D.state depot.old).files whole
+        × IsMeaning flow.now.nodes (D.state depot.old).files whole
         × Each (LeftBetween (K.state disk.old) (K.state disk.new))
-        (IsGrown (K.state disk.old).file text.now (root_columns flow.now) olds
+        (IsGrown (K.state disk.old).file text.now (root_columns flow.now.nodes) olds
         (missing_blocks batch (count_of found) whole))) }
     ensures grows { IsTrue (K.state disk.old).honest → IsSettled (K.state disk.old)
         → (olds : List Stored) → IsAt found (K.state disk.old).file text.now olds
@@ -84,13 +85,13 @@ pub fn resume<D: Depot, K: Disk>(
     ensures stops { result ≡ Err (stop.Fault fault.Disk) → IsTrue (K.state disk.old).honest
         → IsSettled (K.state disk.old)
         → (olds : List Stored) → IsAt found (K.state disk.old).file text.now olds
-        → (whole : List (List Value)) × IsMeaning flow.now (D.state depot.old).files whole
+        → (whole : List (List Value)) × IsMeaning flow.now.nodes (D.state depot.old).files whole
         × IsStopped (K.state disk.old).file text.now olds (missing_blocks batch (count_of found) whole)
         (K.state disk.new).may_leave }
     ensures consults { Consults (D.state depot.old) (D.state depot.new) }
     ensures elapses { Elapses (K.state disk.old) (K.state disk.new) }
 {
-    let root = flow.root();
+    let root = flow.root_node();
     let mut writer = Writer::new(alloc, &root.schema)?;
     let rows = whole_rows(alloc, flow, depot)?;
     let before = count_of(&found);

@@ -28,7 +28,7 @@ pub fn load<D: Depot, K: Disk>(
     requires short { length text.now ≤ MAX_FLOW_BYTES }
     requires some { 1 ≤ batch }
     requires few { batch ≤ MAX_ROWS }
-    ensures promise { Loads (record { nodes = flow.now; text = text.now; batch = batch })
+    ensures promise { Loads (record { nodes = flow.now.nodes; text = text.now; batch = batch })
         (D.state depot.old) (D.state depot.new) (K.state disk.old) (K.state disk.new) result }
 {
     holds_once();
@@ -36,7 +36,7 @@ pub fn load<D: Depot, K: Disk>(
     cut_laws();
     blocks_laws();
     still_laws();
-    let root = flow.root();
+    let root = flow.root_node();
     let found = match begin(alloc, disk, text, &root.schema) {
         Ok(found) => found,
         Err(stop) => return Err(stop),

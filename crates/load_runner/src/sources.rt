@@ -1,19 +1,21 @@
 // The rows that a flow means, from the files of its sources.
-ghost use Rattle.std.specs.Prelude.{◌≡◌, ◌≤◌, ◌+◌, Some, None, All, IfOk, IfSome, Err, slice_get};
+ghost use Rattle.std.specs.Prelude.{◌≡◌, ◌<◌, ℕ, Some, None, All, IfOk, IfSome, Err, option_map, option_copied, find};
 ghost use Rattle.outside.specs.Words.{Rose, Files, file_at, Consults};
 ghost use Rattle.outside.specs.Whole.{found_in};
 ghost use Rattle.tuple_schema.specs.Schemas.{Fits};
 ghost use Rattle.tuple_schema.specs.Stops.{IfFault};
 ghost use Rattle.tuple_schema.specs.declared.memory.Stop.TheVariants as stop;
 ghost use Rattle.tuple_schema.specs.declared.schema.ColumnKind.TheVariants as column_kind;
-ghost use Rattle.flow_types.specs.Typed.{last_of};
+ghost use Rattle.flow_types.specs.Flows.{root_in};
+ghost use Rattle.kind_laws.specs.Wholes.{by_number};
+ghost use Rattle.kind_laws.specs.Laws.{OwnFit, SourcesFit};
 ghost use Rattle.load_runner.specs.declared.fault.LoadFault.TheVariants as fault;
-ghost use Rattle.load_runner.specs.Sources.{content_in, source_in, whole_in};
+ghost use Rattle.load_runner.specs.Sources.{content_in, content_at, content_of, numbered, contents_in, whole_in};
 ghost use Rattle.load_runner.specs.Faults.{IsSourceFault};
 
 use crate::fault::LoadFault;
 use extractors::read_content;
-use flow_types::{Flow, Kind};
+use flow_types::{Flow, Kind, Node, tree_laws};
 use kind_laws::whole;
 use outside::{Depot, WholeFile, read_whole};
 use std::alloc::Global;
@@ -29,40 +31,76 @@ pub fn whole_rows<D: Depot>(
     depot: &mut D,
 ) -> Result<Tuples, Stop<LoadFault>>
     ensures whole { IfOk result (λ rows. (files : Files) → (D.state depot.old).files ≡ Some files
-        → whole_in flow.now files ≡ Some rows) }
+        → whole_in flow.now.nodes files ≡ Some rows) }
     ensures none { result ≡ Err (stop.Fault fault.NotBuilt) → (files : Files) → (D.state depot.old).files ≡ Some files
-        → whole_in flow.now files ≡ None }
-    ensures fit { IfOk result (λ rows. IfSome (last_of flow.now) (λ root. All (λ row. Fits root.schema row) rows)) }
+        → whole_in flow.now.nodes files ≡ None }
+    ensures fit { IfOk result (λ rows. IfSome (root_in flow.now.nodes)
+        (λ root. All (λ row. Fits root.schema row) rows)) }
     ensures causes { IfFault result (IsSourceFault (Rose (D.state depot.old).faults (D.state depot.new).faults)) }
     ensures consults { Consults (D.state depot.old) (D.state depot.new) }
 {
-    let Some(rows) = source_rows(alloc, flow, depot)? else {
+    let Some(sources) = source_lists(alloc, flow, depot)? else {
         return Err(Stop::Fault(LoadFault::NotBuilt));
     };
-    match whole(alloc, flow, rows) {
+    match whole(alloc, flow, sources) {
         Ok(rows) => Ok(rows),
         Err(Memory) => Err(Stop::Memory),
     }
 }
 
-// The content of the flow's source, where it has one.
-fn source_rows<D: Depot>(
+// The contents of the flow's sources by number, in the order of the file, where each has one.
+fn source_lists<D: Depot>(
     alloc: Global,
     flow: &Flow,
     depot: &mut D,
-) -> Result<Option<Tuples>, Stop<LoadFault>>
-    ensures content { IfOk result (λ rows. (files : Files) → (D.state depot.old).files ≡ Some files
-        → source_in flow.now files ≡ rows) }
-    ensures fit { IfOk result (λ o. IfSome o (λ rows. IfSome (slice_get flow.now 0)
-        (λ first. All (λ row. Fits first.schema row) rows))) }
+) -> Result<Option<Vec<Tuples>>, Stop<LoadFault>>
+    ensures contents { IfOk result (λ o. (files : Files) → (D.state depot.old).files ≡ Some files
+        → contents_in flow.now.nodes files ≡ option_map (λ lists. lists.items) o) }
+    ensures fit { IfOk result (λ o. IfSome o (λ lists. SourcesFit flow.now.nodes (by_number lists.items))) }
     ensures causes { IfFault result (λ f. (f ≡ fault.Depot) × Rose (D.state depot.old).faults
         (D.state depot.new).faults) }
     ensures consults { Consults (D.state depot.old) (D.state depot.new) }
 {
-    let first = &flow.nodes()[0];
-    match &first.kind {
-        Kind::Source(source) => read_rows(alloc, depot, source.file.as_str(), &first.schema),
-        _ => Ok(None),
+    tree_laws();
+    let nodes = flow.nodes();
+    let mut lists = Vec::new(alloc);
+    for number in 0..nodes.len() {
+        let Some(rows) = source_rows(alloc, numbered(nodes, number), depot)? else {
+            return Ok(None);
+        };
+        lists.push(rows)?;
+    }
+    Ok(Some(lists))
+}
+
+// The node of this number.
+fn numbered(nodes: &[Node], number: usize) -> Option<&Node>
+    ensures { option_copied result ≡ numbered nodes.now number }
+{
+    nodes.iter().find(|node| node.id.0 as usize == number)
+}
+
+// The content of the source, where it has one; of any other node the empty list.
+fn source_rows<D: Depot>(
+    alloc: Global,
+    node: Option<&Node>,
+    depot: &mut D,
+) -> Result<Option<Tuples>, Stop<LoadFault>>
+    requires { IfSome (option_copied node) (λ n. All (λ c. c.kind ≡ column_kind.Int) n.schema) }
+    ensures content { IfOk result (λ rows. (files : Files) → (D.state depot.old).files ≡ Some files
+        → content_of files (option_copied node.entry) ≡ rows) }
+    ensures fit { IfOk result (λ o. IfSome o (λ rows. IfSome (option_copied node.entry)
+        (λ n. OwnFit n.kind n.schema rows))) }
+    ensures causes { IfFault result (λ f. (f ≡ fault.Depot) × Rose (D.state depot.old).faults
+        (D.state depot.new).faults) }
+    ensures consults { Consults (D.state depot.old) (D.state depot.new) }
+{
+    let Some(node) = node else {
+        return Ok(Some(Tuples::new(alloc)));
+    };
+    match &node.kind {
+        Kind::Source(source) => read_rows(alloc, depot, source.file.as_str(), &node.schema),
+        Kind::Select { .. } | Kind::Project { .. } => Ok(Some(Tuples::new(alloc))),
     }
 }
 

@@ -6,7 +6,7 @@ use Rattle.whload.specs.Commands.{Asked, load}
 use Rattle.whload.specs.Verdict.{FlowText}
 
 abbrev pub flow_text_of : Found → FlowText
-flow_text_of found = record { text = found.text.items; nodes = found.flow }
+flow_text_of found = record { text = found.text.items; flow = found.flow }
 
 -- the command
 abbrev pub asked_of : Command → Asked

@@ -8,7 +8,7 @@ use Rattle.workflow_file.specs.declared.fault.FlowFault.{FlowFault}
 use Rattle.workflow_file.specs.Flows as flows
 use Rattle.flow_types.specs.declared.fault.NodeId.{NodeId}
 use Rattle.flow_types.specs.declared.fault.SchemaFault.{SchemaFault}
-use Rattle.flow_types.specs.declared.node.Node.{Node}
+use Rattle.flow_types.specs.Flows.{TypedFlow}
 use Rattle.flow_types.specs.Names.{name_at}
 use Rattle.flow_types.specs.Graph.{names_of}
 use Rattle.flow_types.specs.Built.{is_built}
@@ -18,10 +18,10 @@ use Rattle.whload.specs.declared.reason.Reason.{Reason}
 use Rattle.whload.specs.declared.reason.Reason.TheVariants as why
 use Rattle.whload.specs.declared.reason.Unbuilt.TheVariants as unbuilt
 
--- the flow of a folder: its text, and the nodes that it declares
+-- the flow of a folder: its text, and the typed flow that it declares
 pub record FlowText : Type 0 where
   pub text : List ℕ
-  pub nodes : List Node
+  pub flow : TypedFlow
 
 -- the flow's text, of what is found of `flow.toml`
 abbrev pub text_in : Found → Result (List ℕ) Reason
@@ -43,13 +43,13 @@ abbrev pub fault_name : RawFlow → Option NodeId → List ℕ
 fault_name raw None = codes "table"
 fault_name raw (Some id) = name_at (names_of raw) id.0
 
--- the nodes of the typed flow, or the first fault of the raw one
-abbrev pub typed_in : RawFlow → Result (List Node) SchemaFault → Result (List Node) Reason
-typed_in raw (Ok nodes) = Ok nodes
+-- the typed flow, or the first fault of the raw one
+abbrev pub typed_in : RawFlow → Result TypedFlow SchemaFault → Result TypedFlow Reason
+typed_in raw (Ok flow) = Ok flow
 typed_in raw (Err fault) = Err (why.Schema (fault_name raw fault.node) fault)
 
--- the nodes of the flow that the text is
-abbrev pub flow_in : List ℕ → Result (List Node) Reason
+-- the typed flow that the text is
+abbrev pub flow_in : List ℕ → Result TypedFlow Reason
 flow_in text = do
   raw ← parsed_in (flows.flow text)
   built ← built_in raw
@@ -58,8 +58,8 @@ flow_in text = do
 -- the flow that the text is, or its first fault
 unfoldable pub flow_of_text : List ℕ → Result FlowText Reason
 flow_of_text text = do
-  nodes ← flow_in text
-  Ok (record { text = text; nodes = nodes })
+  flow ← flow_in text
+  Ok (record { text = text; flow = flow })
 
 -- the flow of these files, or why there is none
 unfoldable pub flow_of_files : Files → Result FlowText Reason
@@ -70,8 +70,8 @@ flow_of_files files = do
 -- what a command has to do over these files, or why the flow is refused
 unfoldable pub asked_over : Asked → Files → Result Job Reason
 asked_over command files = do
-  flow ← flow_of_files files
-  Ok (job_for command flow.text flow.nodes)
+  found ← flow_of_files files
+  Ok (job_for command found.text found.flow.nodes)
 
 -- the words ask for this over these files
 pub record AsksFor (words : List (List ℕ)) (files : Files) (job : Job) : Type 0 where

@@ -3,7 +3,6 @@ ghost use Rattle.std.specs.Prelude.{◌≡◌, ◌≤◌, IsTrue, IfOk, OnOk, le
 ghost use Rattle.workflow_file.specs.Flows as flows;
 ghost use Rattle.workflow_file.specs.Kept.{KeepsRules};
 ghost use Rattle.flow_types.specs.Built.{is_built};
-ghost use Rattle.flow_types.specs.Chain.{IsChain};
 ghost use Rattle.flow_types.specs.Names.{name_at};
 ghost use Rattle.flow_types.specs.Graph.{names_of};
 ghost use Rattle.flow_types.specs.Typed.{typed};
@@ -21,7 +20,6 @@ pub fn flow_of(alloc: Global, text: &[u8]) -> Result<Flow, Reason>
     requires { length text.now ≤ 65536 }
     ensures tells { Tells result (flow_in text.now) }
     ensures causes { IsAsked ⊥ result }
-    ensures chain { IfOk result IsChain }
 {
     let raw = parse(alloc, text)?;
     expect_built(&raw)?;
@@ -62,7 +60,6 @@ fn typed(alloc: Global, raw: &RawFlow) -> Result<Flow, Reason>
     requires built { IsTrue (is_built raw.now) }
     ensures tells { Tells result (typed_in raw.now (typed raw.now)) }
     ensures causes { IsAsked ⊥ result }
-    ensures chain { IfOk result IsChain }
 {
     match type_flow(alloc, raw) {
         Ok(flow) => Ok(flow),

@@ -13,7 +13,7 @@ use workflow_file::{FlowFault, Lack, Place};
 
 /// The report of a load that is complete.
 pub fn report_text(alloc: Global, flow: &Flow, report: &Report) -> Result<String, AllocError>
-    ensures { IfOk result (λ text. string_bytes text ≡ report_text flow.now report.now) }
+    ensures { IfOk result (λ text. string_bytes text ≡ report_text flow.now.nodes report.now) }
 {
     let before = report.committed_before;
     let added = report.added;
@@ -29,7 +29,7 @@ fn add_edges(
     edges: &[EdgeCount],
     text: &mut String,
 ) -> Result<(), AllocError>
-    ensures { OnOk result (string_bytes text.new ≡ string_bytes text.old ++ flat_map (edge_line flow.now) edges.now) }
+    ensures { OnOk result (string_bytes text.new ≡ string_bytes text.old ++ flat_map (edge_line flow.now.nodes) edges.now) }
 {
     match edges {
         [] => Ok(()),
@@ -43,7 +43,7 @@ fn add_edges(
 
 // What passed the filter on an edge, and what was dropped there.
 fn edge_line(alloc: Global, flow: &Flow, edge: &EdgeCount) -> Result<String, AllocError>
-    ensures { IfOk result (λ text. string_bytes text ≡ edge_line flow.now edge.now) }
+    ensures { IfOk result (λ text. string_bytes text ≡ edge_line flow.now.nodes edge.now) }
 {
     let name = name_of(flow.nodes(), edge.edge);
     let passed = edge.passed;

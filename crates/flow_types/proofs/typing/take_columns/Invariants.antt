@@ -3,7 +3,7 @@ use Rattle.tuple_schema.specs.Texts.{head_of}
 use Rattle.plain_where.specs.Truths.{place_of}
 use Rattle.flow_types.specs.Names.{names_in, unknown}
 use Rattle.flow_types.specs.Typed.{output_columns}
-use Rattle.flow_types.specs.Chain.{Takes}
+use Rattle.flow_types.specs.Linked.{Takes}
 use Rattle.flow_types.proofs.typing.take_columns.Given as goal
 
 abbrev pub invariant-loop-text : goal.invariant-loop-text

@@ -6,11 +6,11 @@ of-requires c =
     let fine = rw (c.deref.ensures.value, c.in_ok-columns.ensures, c.items.ensures) at c.in_ok-key.ensures.distinct in
     rw (c.in_ok-columns.ensures, c.items.ensures) (text_schema c.args.source.now.columns c.requires.columns.some c.requires.columns.few fine)
 
-pub returns-clause-first : goal.returns-clause-first
-returns-clause-first c =
+pub returns-clause-made : goal.returns-clause-made
+returns-clause-made c =
     let fine = rw (c.deref.ensures.value, c.in_ok-columns.ensures, c.items.ensures) at c.in_ok-key.ensures.distinct in
-    record {
-      follows = (tt, c.none.ensures);
+    λ others. record {
+      from = tt;
       schema = rw (c.of.ensures, c.in_ok-columns.ensures, c.items.ensures) (text_schema c.args.source.now.columns c.requires.columns.some c.requires.columns.few fine);
       ints = rw (c.of.ensures, c.in_ok-columns.ensures, c.items.ensures) (text_ints c.args.source.now.columns);
     }

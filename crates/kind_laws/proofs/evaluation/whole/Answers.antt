@@ -1,37 +1,138 @@
-use Rattle.std.proofs.Common.{◌≡◌, ◌∙◌, ◌+◌, ◌-◌, ◌∷◌, [], List, take, slice_get, suc, None, Some, All, ap, sym, refl, subst, arith}
-use Rattle.std.proofs.lemmas.Option.{same_Some}
-use Rattle.tuple_schema.specs.declared.value.Value.{Value}
+use Rattle.std.proofs.Common.{◌≡◌, ◌≤◌, ◌<◌, ◌+◌, ◌-◌, ℕ, List, [], ◌∷◌, ◌++◌, map, take, drop, length, get_or, slice_get, slice_set, All, Some, refl, ap, sym, ◌∙◌, subst, length-append, arith}
+use Rattle.std.proofs.lemmas.List.{map-append, length-map, drop-map, take-map, take_all, get_or-set_other}
+use Rattle.std.proofs.lemmas.List.Elements.{All-nil, All-head}
+use Rattle.std.proofs.lemmas.Option.{slice_get_read}
+use Rattle.list_algebra.specs.Trees.{Tree, node, root_of, trees_of, trees_in, with_node, EachNext}
 use Rattle.tuple_schema.specs.Schemas.{Fits}
+use Rattle.list_algebra.specs.Bags.{Tuple}
 use Rattle.flow_types.specs.declared.node.Node.{Node}
+use Rattle.flow_types.specs.declared.node.Kind.TheVariants as kind
+use Rattle.flow_types.specs.Flows.{number_of, count_inputs, columns_of}
+use Rattle.flow_types.specs.Linked.{IsLinkedOver}
 use Rattle.kind_laws.specs.Outputs.{output_of}
-use Rattle.kind_laws.proofs.Chains.{node_behind}
-use Rattle.kind_laws.proofs.Lists.{first_list, list_behind}
+use Rattle.kind_laws.specs.Laws.{SourcesFit, OwnFit}
+use Rattle.kind_laws.specs.Wholes.{Lists, by_number, list_of}
+use Rattle.kind_laws.proofs.Stacks.{IsFine, Made, made_source, made_other, can_take_last, grown, next_here, roots_grown, lists_grown, fine_grown, enough, apart_at}
 use Rattle.kind_laws.proofs.evaluation.whole.Goals as goal
+use Rattle.kind_laws.proofs.evaluation.whole.Goals.{in-Source, in_default+in_ok-split_off-in_default+in_ok-split_off-in_default-2+in_ok-rows-in_default}
 
-pub loop-place-init : goal.loop-place-init
-loop-place-init c =
-    let chain = c.nodes-place-end.ensures.chain in
-    record {
-      rows = sym (first_list c.args.source c.args.flow.now chain.linked chain.some);
-      fit = λ node is. rw is at c.requires;
-    }
+pub loop-node-init : goal.loop-node-init
+unfolding trees_in
+loop-node-init c = record {
+  inputs = rw c.new-inputs.ensures.items refl;
+  lists = rw c.new-lists.ensures.items refl;
+  next = rw c.nodes-node-items.ensures.same (c.tree_laws.ensures.next c.args.flow.now c.nodes-node-items.ensures.flow);
+  fine = All-nil (IsFine (by_number c.args.sources.items));
+  unspent = λ k n past is. refl;
+}
 
-pub loop-place-preserved : goal.loop-place-preserved
-loop-place-preserved c =
-    let nodes = c.args.flow.now in
-    let node = c.of.result.node.now in
-    let input = c.of.result.input.now in
-    let place = c.loop-place.place in
-    let chain = c.nodes-place-end.ensures.chain in
-    let next : place - 1 + 1 ≡ place = omega (arith, c.loop-place.auto.place) in
-    let there : slice_get nodes (suc (place - 1)) ≡ Some node = let e : suc (place - 1) ≡ place = omega (arith, c.loop-place.auto.place) in rw e c.of.ensures.node in
-    let one_on : slice_get nodes (place - 1 + 1) ≡ Some node = rw next c.of.ensures.node in
-    let is = node_behind None nodes (place - 1) input node chain.linked c.of.ensures.input there in
-    let more = rw next at (list_behind (λ number. c.args.source) nodes (place - 1) input node is c.of.ensures.input one_on) in
-    record {
-      rows = c.in_ok-rows.ensures.output ∙ ap (λ rows. output_of node.kind node.schema (rows ∷ [])) c.loop-place.invariant.rows ∙ sym more;
-      fit = λ last at_last.
-          let back : place + 1 - 1 ≡ place = omega arith in
-          let same : node ≡ last = same_Some _ _ (sym c.of.ensures.node ∙ rw back at at_last) in
-          subst (λ (n : Node). All (λ row. Fits n.schema row) c.in_ok-rows.rows) same c.in_ok-rows.ensures.fit;
-    }
+pub out-requires : goal.out-requires
+out-requires c =
+    let truth = by_number c.args.sources.items in
+    let nodes = c.nodes-node-items.result.now in
+    let trees = trees_in count_inputs (take c.loop-node.node-index nodes) in
+    let n = c.node-item.result in
+    let next = next_here nodes c.loop-node.node-index n c.loop-node-test.true c.node-item.is trees c.loop-node.invariant.next in
+    let lists : length c.loop-node.lists.items ≡ length trees = ap length c.loop-node.invariant.lists ∙ rw length-map refl in
+    let at : c.len.result - length c.nodes.result.now ≡ length trees - count_inputs n =
+    rw c.nodes.ensures (ap (λ k. k - count_inputs n) (omega (arith, c.len.ensures, c.loop-node.lists.ok.0, lists))) in
+    let inputs : map (λ m. m.now) c.in_ok-split_off-in_default.field-0.items ≡ drop (length trees - count_inputs n) (map root_of trees) =
+    ap (map (λ m. m.now)) c.in_ok-split_off-in_default.ensures.tail ∙ sym (drop-map (λ m. m.now) _ c.loop-node.inputs.items) ∙ ap (drop _) c.loop-node.invariant.inputs ∙ ap (λ k. drop k (map root_of trees)) at in
+    let given : c.in_ok-split_off-in_default-2.field-0.items ≡ drop (length trees - count_inputs n) (map (list_of truth) trees) =
+    c.in_ok-split_off-in_default-2.ensures.tail ∙ ap (drop _) c.loop-node.invariant.lists ∙ ap (λ k. drop k (map (list_of truth) trees)) at in
+    rw (inputs, given) (can_take_last truth trees n next.0 c.loop-node.invariant.fine)
+
+single : {X : Type 0} (x y : X) (front : List X) → x ∷ [] ≡ front ++ y ∷ [] → x ≡ y
+single x y [] is = cc
+single x y (z ∷ front) is =
+    let len = ap length is in
+    let all = length-append front (y ∷ []) in
+    absurd (omega arith)
+
+ends : (c : goal.After-drop-sources-in-Some) → (list_of (by_number c.args.sources.items) c.nodes-node-items.ensures.flow.tree ≡ c.in-Some.rows) × IsFine (by_number c.args.sources.items) c.nodes-node-items.ensures.flow.tree
+ends c =
+    let truth = by_number c.args.sources.items in
+    let nodes = c.nodes-node-items.result.now in
+    let flow = c.nodes-node-items.ensures.flow in
+    let all : take c.loop-node.node-index nodes ≡ c.args.flow.now.nodes = take_all c.loop-node.node-index nodes c.loop-node-test.false ∙ c.nodes-node-items.ensures.same in
+    let alone : trees_in count_inputs (take c.loop-node.node-index nodes) ≡ flow.tree ∷ [] = ap (trees_in count_inputs) all ∙ c.tree_laws.ensures.alone c.args.flow.now flow in
+    let lists = c.loop-node.invariant.lists ∙ ap (map (list_of truth)) alone in
+    let fine : All (IsFine truth) (flow.tree ∷ []) = subst (All (IsFine truth)) alone c.loop-node.invariant.fine in
+    (single (list_of truth flow.tree) c.in-Some.rows _ (sym lists ∙ c.in-Some.ensures.items), All-head (IsFine truth) flow.tree [] fine)
+
+pub returns-in-Some-clause-whole : goal.returns-in-Some-clause-whole
+returns-in-Some-clause-whole c = rw (c.nodes-node-items.ensures.flow.made) (ap Some (ends c).0)
+
+pub returns-in-Some-clause-fit : goal.returns-in-Some-clause-fit
+returns-in-Some-clause-fit c =
+    rw (c.tree_laws.ensures.root c.args.flow.now c.nodes-node-items.ensures.flow)
+    (subst (λ (rows : List Tuple). All (Fits (root_of c.nodes-node-items.ensures.flow.tree).schema) rows) (ends c).0 (ends c).1.fit)
+
+abbrev trees_at : goal.In_ok-push-2 → List (Tree Node)
+trees_at c = trees_in count_inputs (take c.loop-node.node-index c.nodes-node-items.result.now)
+
+item_at : (c : goal.In_ok-push-2) → slice_get c.nodes-node-items.result.now c.loop-node.node-index ≡ Some c.node-item.result
+item_at c = slice_get_read c.nodes-node-items.result.now (length c.nodes-node-items.result.now) c.loop-node.node-index c.node-item.result refl c.loop-node-test.true c.node-item.is
+
+next_at : (c : goal.In_ok-push-2) → EachNext count_inputs IsLinkedOver (trees_at c) (c.node-item.result ∷ drop (c.loop-node.node-index + 1) c.nodes-node-items.result.now)
+next_at c = next_here c.nodes-node-items.result.now c.loop-node.node-index c.node-item.result c.loop-node-test.true c.node-item.is (trees_at c) c.loop-node.invariant.next
+
+made : (c : goal.In_ok-push-2) → Made (by_number c.args.sources.items) (trees_at c) c.node-item.result (map (λ m. m.now) c.match-node.inputs.items) c.match-node.lists.items c.match-node.rows
+made c = elim c.match-node.branch [
+  | in-Source w ↦
+      let truth = by_number c.args.sources.items in
+      let n = c.node-item.result in
+      let fit : SourcesFit c.nodes-node-items.result.now truth = rw c.nodes-node-items.ensures.same c.requires in
+      let own : OwnFit n.kind n.schema (truth n) = subst (λ (m : Node). OwnFit m.kind m.schema (truth m)) (sym c.node-item.is) (fit c.loop-node.node-index n c.loop-node-test.true) in
+      let rows : c.match-node.rows ≡ truth n = w.rows-is ∙ w.take_list-rows.ensures.list ∙ c.loop-node.invariant.unspent c.loop-node.node-index n (omega arith) (item_at c) in
+      rw (w.inputs-is, w.lists-is, c.loop-node.invariant.inputs, c.loop-node.invariant.lists)
+      (made_source truth (trees_at c) n (next_at c).0 c.loop-node.invariant.fine w.in-Source.field-0 w.in-Source.is own c.match-node.rows rows)
+  | in_default+in_ok-split_off-in_default+in_ok-split_off-in_default-2+in_ok-rows-in_default w ↦
+      let truth = by_number c.args.sources.items in
+      let trees = trees_at c in
+      let n = c.node-item.result in
+      let lists : length c.loop-node.lists.items ≡ length trees = ap length c.loop-node.invariant.lists ∙ rw length-map refl in
+      let at : w.len.result - length w.nodes.result.now ≡ length trees - count_inputs n =
+      rw w.nodes.ensures (ap (λ k. k - count_inputs n) (omega (arith, w.len.ensures, c.loop-node.lists.ok.0, lists))) in
+      let inputs : map (λ m. m.now) w.in_ok-split_off-in_default.field-0.items ≡ drop (length trees - count_inputs n) (map root_of trees) =
+      ap (map (λ m. m.now)) w.in_ok-split_off-in_default.ensures.tail ∙ sym (drop-map (λ m. m.now) _ c.loop-node.inputs.items) ∙ ap (drop _) c.loop-node.invariant.inputs ∙ ap (λ k. drop k (map root_of trees)) at in
+      let given : w.in_ok-split_off-in_default-2.field-0.items ≡ drop (length trees - count_inputs n) (map (list_of truth) trees) =
+      w.in_ok-split_off-in_default-2.ensures.tail ∙ ap (drop _) c.loop-node.invariant.lists ∙ ap (λ k. drop k (map (list_of truth) trees)) at in
+      let left : map (λ m. m.now) c.match-node.inputs.items ≡ take (length trees - count_inputs n) (map root_of trees) =
+      ap (λ v. map (λ m. m.now) v.items) w.inputs-is ∙ ap (map (λ m. m.now)) w.in_ok-split_off-in_default.ensures.items ∙ sym (take-map (λ m. m.now) _ c.loop-node.inputs.items)
+      ∙ ap (take _) c.loop-node.invariant.inputs ∙ ap (λ k. take k (map root_of trees)) at in
+      let others : c.match-node.lists.items ≡ take (length trees - count_inputs n) (map (list_of truth) trees) =
+      ap (λ v. v.items) w.lists-is ∙ w.in_ok-split_off-in_default-2.ensures.items ∙ ap (take _) c.loop-node.invariant.lists ∙ ap (λ k. take k (map (list_of truth) trees)) at in
+      let rows : c.match-node.rows ≡ output_of n.kind (columns_of (drop (length trees - count_inputs n) (map root_of trees))) (drop (length trees - count_inputs n) (map (list_of truth) trees)) =
+      w.rows-is ∙ w.in_ok-rows-in_default.ensures ∙ ap (λ ns. output_of n.kind (columns_of ns) w.in_ok-split_off-in_default-2.field-0.items) inputs ∙ ap (output_of n.kind _) given in
+      rw (left, others) (made_other truth trees n (next_at c).0 c.loop-node.invariant.fine w.in_default.not-Source c.match-node.rows rows)
+]
+
+unspent : (c : goal.In_ok-push-2) (k : ℕ) (n : Node) → c.loop-node.node-index + 1 ≤ k → slice_get c.nodes-node-items.result.now k ≡ Some n
+    → get_or c.match-node.sources.items (number_of n) [] ≡ get_or c.args.sources.items (number_of n) []
+unspent c k n past is = elim c.match-node.branch [
+  | in-Source w ↦
+      let flow = c.nodes-node-items.ensures.flow in
+      let same = c.nodes-node-items.ensures.same in
+      let other : number_of n ≡ number_of c.node-item.result → ⊥ =
+      apart_at c.args.flow.now.nodes c.loop-node.node-index k c.node-item.result n flow.apart (rw (← same) (item_at c)) (rw (← same) is) (omega arith) in
+      rw (w.sources-is, w.take_list-rows.ensures.others, get_or-set_other c.loop-node.sources.items (number_of c.node-item.result) (number_of n) [] [] other)
+      (c.loop-node.invariant.unspent k n (omega arith) is)
+  | in_default+in_ok-split_off-in_default+in_ok-split_off-in_default-2+in_ok-rows-in_default w ↦ rw w.sources-is (c.loop-node.invariant.unspent k n (omega arith) is)
+]
+
+pub loop-node-preserved : goal.loop-node-preserved
+loop-node-preserved c =
+    let truth = by_number c.args.sources.items in
+    let n = c.node-item.result in
+    let trees = trees_at c in
+    let is = made c in
+    let more = grown c.nodes-node-items.result.now c.loop-node.node-index n c.loop-node-test.true c.node-item.is in
+    rw more
+    (record {
+      inputs = ap (map (λ m. m.now)) c.in_ok-push.ensures.items ∙ map-append (λ m. m.now) c.match-node.inputs.items _ ∙ ap (λ ns. ns ++ n ∷ []) is.inputs_are ∙ sym (roots_grown truth trees n);
+      lists = c.in_ok-push-2.ensures.items ∙ ap (λ ls. ls ++ c.match-node.rows ∷ []) is.lists_are ∙ ap (λ rows. take (length trees - count_inputs n) (map (list_of truth) trees) ++ rows ∷ []) is.rows_are ∙ sym (lists_grown truth trees n);
+      next = (next_at c).1;
+      fine = fine_grown truth trees n c.loop-node.invariant.fine is.fine;
+      unspent = unspent c;
+    })

@@ -18,7 +18,7 @@ use Rattle.load_runner.proofs.Loaded.{refused, rested, went_on, rests_of}
 use Rattle.load_runner.proofs.running.load.Goals as goal
 
 ran : (g : _) (c : goal.After-resume g) → IsTrue (g.K.Disk.state c.args.disk.now).honest
-    → Ran (record { nodes = c.args.flow.now; text = c.args.text.now; batch = c.args.batch }) (g.D.Depot.state c.args.depot.now).files c.in-Ok.found
+    → Ran (record { nodes = c.args.flow.now.nodes; text = c.args.text.now; batch = c.args.batch }) (g.D.Depot.state c.args.depot.now).files c.in-Ok.found
     (g.K.Disk.state c.args.disk.now) (g.K.Disk.state c.begin.new.disk) (g.K.Disk.state c.resume.new.disk)
 ran g c honest =
     let still = c.begin.ensures.elapses.honest ∙ honest in
@@ -29,7 +29,7 @@ ran g c honest =
       spares = c.begin.ensures.spares;
       syncs = c.in-Ok.ensures.settled;
       time = c.resume.ensures.elapses;
-      starts = rw (ap columns_of_last c.root-root.ensures.last) at (c.in-Ok.ensures.found honest);
+      starts = rw (ap columns_of_last c.root_node-root.ensures.last) at (c.in-Ok.ensures.found honest);
       unended = sym c.if-is_ended.ensures;
       moments = c.resume.ensures.any_moment still settled;
       grows = c.resume.ensures.grows still settled;
@@ -47,7 +47,7 @@ returns g c =
     let new = g.K.Disk.state c.resume.new.disk in
     let depot = g.D.Depot.state c.args.depot.now in
     let still = g.D.Depot.state c.resume.new.depot in
-    let job : Job = record { nodes = c.args.flow.now; text = c.args.text.now; batch = c.args.batch } in
+    let job : Job = record { nodes = c.args.flow.now.nodes; text = c.args.text.now; batch = c.args.batch } in
     let elapses = time_on old mid new c.begin.ensures.elapses c.resume.ensures.elapses in
     record {
       promise = record {
@@ -63,7 +63,7 @@ returns g c =
         does = λ is.
             let on = c.begin.ensures.elapses.honest ∙ is in
             let settled = c.in-Ok.ensures.settled.settled is in
-            went_on agree once law cuts job depot.files c.in-Ok.found old mid new (ran g c is) some depot still refl c.resume.result c.root-root.result.now c.root-root.ensures.last
+            went_on agree once law cuts job depot.files c.in-Ok.found old mid new (ran g c is) some depot still refl c.resume.result c.root_node-root.result.now c.root_node-root.ensures.last
             (IfOk-weaker c.resume.result _ _ (λ report done. done on) c.resume.ensures.done) (on_ok_weaker c.resume.result (λ now. now on) c.resume.ensures.settled)
             (λ full. c.resume.ensures.full_settled full on settled) c.resume.ensures.full
             (λ failed. c.resume.ensures.stops failed on settled _ (is_at agree once law job depot.files c.in-Ok.found old mid new (ran g c is)))
@@ -74,7 +74,7 @@ returns g c =
 
 pub returns-in-Err : goal.returns-in-Err
 returns-in-Err g c =
-    let columns : c.root-root.result.now.schema ≡ root_columns c.args.flow.now = ap columns_of_last c.root-root.ensures.last in
+    let columns : c.root_node-root.result.now.schema ≡ root_columns c.args.flow.now.nodes = ap columns_of_last c.root_node-root.ensures.last in
     let Is : State → List Column → Type 0 = λ s cs. IsFound (g.K.Disk.state c.args.disk.now).file c.args.text.now cs s in
     record {
       promise = refused c.verdicts_agree.ensures c.holds_once.ensures _ _ _ _ c.in-Err.ensures.spares c.still_laws.ensures.first_rows c.still_laws.ensures.ended c.in-Err.stop c.in-Err.ensures.elapses
@@ -88,10 +88,10 @@ returns-then-is_ended g c = record {
   promise = rested c.verdicts_agree.ensures c.holds_once.ensures _ _ _ _ c.in-Ok.ensures.spares c.still_laws.ensures.first_rows c.still_laws.ensures.ended _ c.in-Ok.ensures.elapses
       (λ honest.
       let text = c.args.text.now in
-      let columns = root_columns c.args.flow.now in
+      let columns = root_columns c.args.flow.now.nodes in
       let old = (g.K.Disk.state c.args.disk.now).file in
       let mid = (g.K.Disk.state c.begin.new.disk).file in
-      let start = begun c.in-Ok.found mid text columns (rw (ap columns_of_last c.root-root.ensures.last) at (c.in-Ok.ensures.found honest)) in
+      let start = begun c.in-Ok.found mid text columns (rw (ap columns_of_last c.root_node-root.ensures.last) at (c.in-Ok.ensures.found honest)) in
       let ended : is_ended c.in-Ok.found ≡ true = sym c.if-is_ended.ensures in
       let here : HoldsRows mid text columns start.committed true = subst (λ (b : Bool). HoldsRows mid text columns start.committed b) ended start.holds in
       let there : HoldsRows old text columns start.committed true =

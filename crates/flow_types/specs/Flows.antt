@@ -1,0 +1,43 @@
+-- Typed flows: their nodes, inputs first, and the tree of these.
+use Rattle.std.specs.Prelude.{ℕ, ◌-◌, ◌==◌, List, [], length, map, find, get_or, slice_get, Option}
+use Rattle.tuple_schema.specs.declared.schema.Column.{Column}
+use Rattle.list_algebra.specs.Trees.{Tree, trees_in}
+use Rattle.flow_types.specs.declared.fault.NodeId.{NodeId}
+use Rattle.flow_types.specs.declared.node.Node.{Node}
+
+-- a typed flow: its nodes, inputs first and the root last, and the columns of the table's key, where it has one
+pub record TypedFlow : Type 0 where
+  pub nodes : List Node
+  pub key : Option (List ℕ)
+
+-- the number of a node
+abbrev pub number_of : Node → ℕ
+number_of n = n.id.0
+
+-- how many inputs a node has
+abbrev pub count_inputs : Node → ℕ
+count_inputs n = length n.inputs
+
+-- the tree of nodes that come one after the other, inputs first
+abbrev pub tree_of : List Node → Option (Tree Node)
+tree_of nodes = slice_get (trees_in count_inputs nodes) 0
+
+-- the root, which is the last node
+abbrev pub root_in : List Node → Option Node
+root_in nodes = slice_get nodes (length nodes - 1)
+
+-- the node of this number
+abbrev pub node_of : TypedFlow → NodeId → Option Node
+node_of flow id = find (λ n. number_of n == id.0) flow.nodes
+
+-- the columns of nodes
+abbrev pub columns_of : List Node → List (List Column)
+columns_of nodes = map (λ n. n.schema) nodes
+
+-- the numbers of nodes
+abbrev pub ids_of : List Node → List NodeId
+ids_of nodes = map (λ n. n.id) nodes
+
+-- the columns of an input
+abbrev pub columns_in : List (List Column) → ℕ → List Column
+columns_in columns input = get_or columns input []

@@ -1,0 +1,81 @@
+-- What holds of the nodes of a typed flow: each is over its inputs, whose columns it takes.
+use Rattle.std.specs.Prelude.{◌≡◌, ◌≤◌, ◌<◌, ◌==◌, ℕ, List, [], ◌∷◌, length, map, get_or, count_by, option_to_list, All, IsSome, Some, ⊤}
+use Rattle.tuple_schema.specs.declared.schema.Column.{Column}
+use Rattle.tuple_schema.specs.Schemas.{IsSchema}
+use Rattle.list_algebra.specs.Trees.{Tree, Trees, EachNode, EachNodeBelow, roots_of, in_order, all_in_order}
+use Rattle.workflow_file.specs.Kept.{KeepsSource}
+use Rattle.plain_where.specs.Truths.{place_of}
+use Rattle.flow_types.specs.Columns.{IsInt}
+use Rattle.flow_types.specs.declared.node.Kind.{Kind}
+use Rattle.flow_types.specs.declared.node.Kind.TheVariants as kind
+use Rattle.flow_types.specs.declared.node.Node.{Node}
+use Rattle.flow_types.specs.Names.{names_in}
+use Rattle.flow_types.specs.NodeTexts.{NodeText, source, select, project}
+use Rattle.flow_types.specs.Flows.{TypedFlow, number_of, tree_of, root_in, columns_in, columns_of, ids_of}
+
+-- these places of the input are taken, and each gives a column of whole numbers
+pub record Takes (input : List Column) (from : List ℕ) (columns : List Column) : Type 0 where
+  pub within : All (λ place. place < length input) from
+  pub each : length columns ≡ length from
+  pub ints : All IsInt columns
+
+-- a kind that is no source, over one input with these columns, gives these columns
+abbrev pub IsFrom : Kind → List Column → List Column → Type 0
+IsFrom (kind.Source file) input columns = ⊤
+IsFrom (kind.Select test) input columns = (columns ≡ input) × IsSome (place_of (names_in input) test.column)
+IsFrom (kind.Project from) input columns = Takes input from columns
+
+-- such a kind, whose columns are whole numbers
+pub record IsTyped (input : List Column) (k : Kind) (columns : List Column) : Type 0 where
+  pub from : IsFrom k input columns
+  pub schema : IsSchema columns
+  pub ints : All IsInt columns
+
+-- what a node says keeps the rules
+abbrev pub KeepsText : NodeText → Type 0
+KeepsText (source s) = KeepsSource s
+KeepsText (select test) = ⊤
+KeepsText (project texts) = (1 ≤ length texts) × (length texts ≤ 64)
+
+-- a kind over inputs with these columns gives these columns
+abbrev pub IsOver : Kind → List (List Column) → List Column → Type 0
+IsOver (kind.Source file) inputs columns = inputs ≡ []
+IsOver (kind.Select test) inputs columns = (inputs ≡ columns ∷ []) × IsSome (place_of (names_in columns) test.column)
+IsOver (kind.Project from) inputs columns = (length inputs ≡ 1) × Takes (columns_in inputs 0) from columns
+
+-- a node over these inputs, whose columns are whole numbers
+pub record IsLinked (n : Node) (below : List Node) : Type 0 where
+  pub inputs : n.inputs ≡ ids_of below
+  pub over : IsOver n.kind (columns_of below) n.schema
+  pub schema : IsSchema n.schema
+  pub ints : All IsInt n.schema
+
+-- a node over the trees of its inputs
+abbrev pub IsLinkedOver : Node → Trees Node → Type 0
+IsLinkedOver n trees = IsLinked n (roots_of trees)
+
+-- the nodes of one tree, inputs first, each over its inputs
+pub record IsTreeOf (nodes : List Node) : Type 0 where
+  pub tree : Tree Node
+  pub all : in_order tree ≡ nodes
+  pub linked : EachNode IsLinkedOver tree
+
+-- the nodes of the trees of inputs, of which there is none or one, whose root is the last node
+pub record AreInputs (nodes : List Node) : Type 0 where
+  pub trees : Trees Node
+  pub all : all_in_order trees ≡ nodes
+  pub linked : EachNodeBelow IsLinkedOver trees
+  pub roots : roots_of trees ≡ option_to_list (root_in nodes)
+
+-- no two of these nodes have one number
+abbrev pub AreApart : List Node → Type 0
+AreApart nodes = (number : ℕ) → count_by (λ n. number_of n == number) nodes ≤ 1
+
+-- the nodes of a flow: those of one tree, inputs first, no two of one number, each over its inputs
+pub record IsFlow (flow : TypedFlow) : Type 0 where
+  pub tree : Tree Node
+  pub all : in_order tree ≡ flow.nodes
+  pub made : tree_of flow.nodes ≡ Some tree
+  pub linked : EachNode IsLinkedOver tree
+  pub apart : AreApart flow.nodes
+  pub few : length flow.nodes ≤ 80
