@@ -4,3 +4,4 @@ pub mod Fronts
 pub mod Adding
 pub mod BlockRows
 pub mod RowGrowth
+pub mod Stopped

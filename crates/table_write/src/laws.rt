@@ -1,5 +1,5 @@
 // What holds of rows that are written in blocks.
-ghost use Rattle.std.specs.Prelude.{◌≡◌, ◌≤◌, ◌+◌, ◌++◌, [], ℕ, List, length, All, Bool, Ok};
+ghost use Rattle.std.specs.Prelude.{◌≡◌, ◌≤◌, ◌+◌, ◌++◌, [], ℕ, List, length, take, All, Bool, Ok};
 ghost use Rattle.tuple_schema.specs.declared.value.Value.{Value};
 ghost use Rattle.tuple_schema.specs.declared.schema.Column.{Column};
 ghost use Rattle.row_codec.specs.Decoding.{IsRowOf};
@@ -8,9 +8,10 @@ ghost use Rattle.commit_disk.specs.Crashes.{HasStill};
 ghost use Rattle.table_read.specs.Rows.{table_rows};
 ghost use Rattle.table_write.specs.Cut.{IsCut, cut, together};
 ghost use Rattle.table_write.specs.Rows.{HoldsRows, HoldsFirst, HoldsEnded};
-ghost use Rattle.table_write.specs.Adds.{with_blocks};
+ghost use Rattle.table_write.specs.Adds.{with_blocks, StopsBetween};
 
 use commit_disk::{holds_once, verdicts_agree};
+use outside::Disk;
 use table_read::rows_laws;
 
 /// Of any rows there is exactly one cut. It does nothing: its contract is the laws.
@@ -44,4 +45,18 @@ pub fn still_laws()
 {
     holds_once();
     verdicts_agree();
+}
+
+/// Where an append to this disk stopped, no image that a crash may leave is ahead of another by more than one block:
+/// each block has a gate of its own. It does nothing: its contract is the law.
+pub fn stopped_laws<K: Disk>(disk: &K)
+    ensures { (text : List ℕ) (olds : List Stored) (blocks : List (List (List Value)))
+        → StopsBetween text olds blocks (K.state disk.now).may_leave
+        → (some other : List ℕ) → (K.state disk.now).may_leave some → (K.state disk.now).may_leave other
+        → (more fewer : ℕ) (ended stopped : Bool) → more ≤ length blocks → fewer ≤ length blocks
+        → Holds some text (with_blocks olds (take more blocks)) ended
+        → Holds other text (with_blocks olds (take fewer blocks)) stopped
+        → more ≤ fewer + 1 }
+{
+    holds_once();
 }

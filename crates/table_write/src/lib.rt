@@ -14,7 +14,7 @@ mod fill;
 mod laws;
 mod writer;
 
-pub use laws::{blocks_laws, cut_laws, still_laws};
+pub use laws::{blocks_laws, cut_laws, still_laws, stopped_laws};
 pub use writer::{WriteFault, Writer};
 
 #[cfg(test)]
