@@ -3,11 +3,12 @@
 //! Stands on `kind_laws`, which says what a flow means, on `extractors`, which reads its sources, and on
 //! `table_read` and `table_write`, which read and write the table; the program stands on it. Read
 //! `specs/Standing.antt` first, when a table's rows stand for a meaning, then `specs/Safe.antt`, what a
-//! crash may leave, and `specs/Histories.antt`, any number of loads.
+//! crash may leave, `specs/Loads.antt`, the promise of a load, and `specs/Histories.antt`, any number of loads.
 //!
 //! Promised, of a disk that is honest: whatever a load answers, and at every moment of it, a crash leaves
-//! all rows that stood, and rows that stand where the source is as it was; with Ok the table is ended and
-//! holds all rows of the meaning; `any_loads`: so it is after any number of loads, stopped or not.
+//! all rows that stood, of this table and of any other, and rows that stand where the source is as it was;
+//! with Ok the table is ended and holds all rows of the meaning; `any_loads`: so it is after any number of
+//! loads, stopped or not.
 //! Not promised: that a load ever completes, that memory is found, or anything of two loads at one time.
 #![tactic(auto)]
 
