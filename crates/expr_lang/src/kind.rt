@@ -11,8 +11,7 @@ ghost use Rattle.expr_lang.specs.declared.kind.TypeFault.{TypeFault};
 use expr_grammar::{Expr, Operator};
 use tuple_schema::{Column, ColumnKind, Memory, Schema, Stop, Text};
 
-/// What an expression gives: a value of a column's kind, which may be Null only where it is
-/// nullable, or a truth.
+/// What an expression gives: a value of a column's kind, nullable where it may be Null, or a truth.
 #[derive(Clone, Copy, Debug, PartialEq, Eq)]
 pub enum ExprKind {
     Value { kind: ColumnKind, nullable: bool },

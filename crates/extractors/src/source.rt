@@ -32,7 +32,7 @@ impl Model for CsvSource {
 }
 
 impl CsvSource {
-    /// Checks the file and keeps it. No tuple and no text is made.
+    /// Checks the file and keeps it. No tuple is made, and no text of a field.
     pub fn of(
         alloc: Global,
         file: Vec<u8>,

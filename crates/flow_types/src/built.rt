@@ -8,8 +8,9 @@ ghost use Rattle.flow_types.specs.NodeTexts.{text_of};
 use tuple_schema::Text;
 use workflow_file::{RawFlow, RawNode, RawSource};
 
-/// Whether the flow is one that can be typed at this stage: a table without a key, sources of whole
-/// numbers in CSV files, and selections and projections that declare nothing.
+/// Whether the flow is one that can be typed at this stage: a table without a key, sources of promise `seq` and of
+/// whole numbers in CSV files, which say nothing of a header, and selections by a plain `where` and projections,
+/// which declare nothing.
 pub fn is_built(raw: &RawFlow) -> bool
     ensures { result ≡ is_built raw.now }
 {

@@ -1,11 +1,11 @@
 //! What a flow means on whole lists: the list that each kind makes of the lists of its inputs.
 //!
-//! Stands on `flow_types`, whose nodes it gives their meaning, and on `plain_where`. `load_runner` loads
-//! what `whole` makes of the sources. Read `specs/Outputs.antt` first, one equation for each kind, then
+//! Stands on `flow_types`, whose nodes it gives their meaning, on `list_algebra` and on `plain_where`. `load_runner`
+//! loads what `whole` makes of the sources. Read `specs/Outputs.antt` first, one equation for each kind, then
 //! `specs/Wholes.antt`, the meaning of a flow.
 //!
-//! Promised: `Transform::out` is the kind's equation on every list whose rows fit the input, and `whole`
-//! is the meaning of the flow.
+//! Promised: `Transform::out` is the kind's equation on all lists whose rows fit the inputs, and `whole` is the
+//! meaning of the flow, over any number of sources.
 //! Not promised: that memory is found.
 #![tactic(auto)]
 

@@ -1,8 +1,8 @@
 //! Rows in batches: one buffer of the table's own row bytes, and views that read it in place.
 //!
-//! Stands on `row_codec`, whose row bytes a batch holds, and on `tuple_schema`. Sources, operators and
-//! filters pass their rows on in it. Read `specs/Packing.antt` first: a contract sees a batch as its
-//! columns and a list of tuples, and a row of it as one tuple. `Rows` are what gives batches of rows.
+//! Stands on `row_codec`, whose row bytes a batch holds, and on `tuple_schema`. `extractors` gives a source's
+//! rows in it. Read `specs/Packing.antt` first: a contract sees a batch as its columns and a list of tuples,
+//! and a row of it as one tuple. `Rows` are what gives batches of rows.
 //!
 //! Promised: `push` and `push_view` make the row the new last one or change nothing; a view's fields,
 //! texts, parts and bytes are those of the row; `bytes` are the rows as a table has them.

@@ -64,7 +64,7 @@ fn flow_line(alloc: Global, flow: &Flow) -> Result<String, Fail> {
         line.push_str(node.name.as_str())?;
     }
     line.push_str(":")?;
-    for column in flow.schema(flow.root()).columns() {
+    for column in flow.root_node().schema.columns() {
         line.push_str(" ")?;
         line.push_str(column.name.as_str())?;
     }
