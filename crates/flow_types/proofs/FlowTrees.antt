@@ -1,17 +1,20 @@
 -- The tree of a typed flow.
 use Rattle.std.proofs.Common.{◌≡◌, ℕ, List, [], ◌∷◌, length, map, slice_get, refl, ap, sym, ◌∙◌, subst, cond, All, zero, suc, find, Bool, true, eq-eqb, inl, inr, count_by, ◌==◌, ◌+◌, None, Some, Ok, ◌≤◌, length-append, arith}
+use Rattle.std.specs.List.{list_all}
 use Rattle.std.proofs.lemmas.List.{length-map}
 use Rattle.std.proofs.lemmas.List.Sums.{sum_by-cons}
-use Rattle.std.proofs.lemmas.List.Elements.{All-nil, All-cons, All-append}
+use Rattle.std.proofs.lemmas.List.Elements.{All-nil, All-head, All-tail, All-cons, All-append}
 use Rattle.std.proofs.lemmas.Bool.Decides.{eqb_tells}
 use Rattle.std.proofs.lemmas.Option.{same_Some}
 use Rattle.list_algebra.specs.Trees.{Tree, node, Trees, no_trees, tree, roots_of, in_order, all_in_order, seen_tree, EachNode, EachNodeBelow, EachNext, root_of, trees_in}
 use Rattle.list_algebra.proofs.Trees.{trees_in-tree, next-all}
 use Rattle.workflow_file.specs.declared.raw.RawFlow.{RawFlow}
+use Rattle.flow_types.specs.declared.node.Kind.{Kind}
+use Rattle.flow_types.specs.declared.node.Kind.TheVariants as kind
 use Rattle.flow_types.specs.declared.node.Node.{Node}
-use Rattle.flow_types.specs.Flows.{TypedFlow, number_of, count_inputs, tree_of, root_in, ids_of, node_of}
+use Rattle.flow_types.specs.Flows.{TypedFlow, number_of, count_inputs, tree_of, root_in, ids_of, node_of, columns_of, keeps_order, has_fixed_root}
 use Rattle.flow_types.specs.Columns.{IsInt}
-use Rattle.flow_types.specs.Linked.{IsLinkedOver, IsTreeOf, AreApart, IsFlow}
+use Rattle.flow_types.specs.Linked.{IsOver, IsLinked, IsLinkedOver, IsTreeOf, AreApart, IsFlow}
 use Rattle.flow_types.specs.Graph.{graph_of, ComeOnce}
 use Rattle.flow_types.specs.Typed.{typed, typed_tree, nodes_in}
 use Rattle.flow_types.proofs.Made.{bound, tree_numbers, seen_in_order}
@@ -97,20 +100,40 @@ root_at flow is = ap root_in (sym is.all) ∙ root_in-tree is.tree
 pub root_ints : (flow : TypedFlow) → IsFlow flow → (n : Node) → root_in flow.nodes ≡ Some n → All IsInt n.schema
 root_ints flow is n at = subst (λ (m : Node). All IsInt m.schema) (same_Some _ _ (sym (root_at flow is) ∙ at)) (tree_ints is.tree is.linked)
 
-mutual
-  ints_in : (t : Tree Node) → EachNode IsLinkedOver t → All (λ n. All IsInt n.schema) (in_order t)
-  ints_in (node n trees) linked =
-      All-append (λ m. All IsInt m.schema) (all_in_order trees) (n ∷ []) (all_ints_in trees linked.1)
-      (All-cons (λ m. All IsInt m.schema) n [] linked.0.ints (All-nil (λ m. All IsInt m.schema)))
+module _ (P : Node → Type 0) (of : (n : Node) (below : List Node) → IsLinked n below → P n) where
+  mutual
+    all_in : (t : Tree Node) → EachNode IsLinkedOver t → All P (in_order t)
+    all_in (node n trees) linked =
+        All-append P (all_in_order trees) (n ∷ []) (all_below trees linked.1) (All-cons P n [] (of n (roots_of trees) linked.0) (All-nil P))
 
-  all_ints_in : (trees : Trees Node) → EachNodeBelow IsLinkedOver trees → All (λ n. All IsInt n.schema) (all_in_order trees)
-  all_ints_in no_trees linked = All-nil (λ m. All IsInt m.schema)
-  all_ints_in (tree first rest) linked =
-      All-append (λ m. All IsInt m.schema) (in_order first) (all_in_order rest) (ints_in first linked.0) (all_ints_in rest linked.1)
+    all_below : (trees : Trees Node) → EachNodeBelow IsLinkedOver trees → All P (all_in_order trees)
+    all_below no_trees linked = All-nil P
+    all_below (tree first rest) linked = All-append P (in_order first) (all_in_order rest) (all_in first linked.0) (all_below rest linked.1)
+
+  -- what holds of each node that is linked holds of each node of a flow
+  each_node : (flow : TypedFlow) → IsFlow flow → All P flow.nodes
+  each_node flow is = subst (All P) is.all (all_in is.tree is.linked)
 
 -- the columns of each node of a flow are whole numbers
 pub all_ints : (flow : TypedFlow) → IsFlow flow → All (λ n. All IsInt n.schema) flow.nodes
-all_ints flow is = subst (All (λ (n : Node). All IsInt n.schema)) is.all (ints_in is.tree is.linked)
+all_ints = each_node (λ n. All IsInt n.schema) (λ n below is. is.ints)
+
+list_all_true : {X : Type 0} (test : X → Bool) (xs : List X) → All (λ x. test x ≡ true) xs → list_all test xs ≡ true
+list_all_true test [] all = refl
+list_all_true test (x ∷ xs) all =
+    rw (All-head (λ y. test y ≡ true) x xs all, list_all_true test xs (All-tail (λ y. test y ≡ true) x xs all)) refl
+
+ordered : (n : Node) (below : List Node) → IsLinked n below → keeps_order n.kind ≡ true
+ordered n below is = by n.kind refl is.over
+  where
+    by : (k : Kind) → n.kind ≡ k → IsOver n.kind (columns_of below) n.schema → keeps_order n.kind ≡ true
+    by (kind.Source s) same over = let built = subst (λ k. IsOver k (columns_of below) n.schema) same over in rw same built.1.seq
+    by (kind.Select test) same over = rw same refl
+    by (kind.Project from) same over = rw same refl
+
+-- each node of a flow keeps the order of rows
+pub fixed_root : (flow : TypedFlow) → IsFlow flow → has_fixed_root flow.nodes ≡ true
+fixed_root flow is = list_all_true (λ n. keeps_order n.kind) flow.nodes (each_node (λ n. keeps_order n.kind ≡ true) ordered flow is)
 
 adds : (b : Bool) → b ≡ true → (let count : ℕ = cond b 1 0 in count) ≡ 1
 adds b is = rw is refl

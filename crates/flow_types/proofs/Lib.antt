@@ -14,3 +14,4 @@ pub mod Once
 pub mod FlowTrees
 pub mod Linking
 pub mod Ranks
+pub mod KeptTexts

@@ -55,7 +55,7 @@ source_at raw place s is = by (slice_get raw.sources place) refl
 -- a kind over the columns of an input that may not be there is over inputs: without one it has no columns
 over_one : (o : Option Node) (k : Kind) (columns : List Column) → IsTyped (columns_in (columns_of (option_to_list o)) 0) k columns
     → ((file : _) → k ≡ kind.Source file → o ≡ None) → IsOver k (columns_of (option_to_list o)) columns
-over_one o (kind.Source file) columns is none = rw (none file refl) refl
+over_one o (kind.Source file) columns is none = (rw (none file refl) refl, is.from)
 over_one None (kind.Select test) columns is none =
     let empty : columns ≡ [] = is.from.0 in
     let some = rw empty at is.schema.some in

@@ -1,8 +1,11 @@
 -- Typed flows: their nodes, inputs first, and the tree of these.
-use Rattle.std.specs.Prelude.{ℕ, ◌-◌, ◌==◌, List, [], length, map, find, get_or, slice_get, Option}
+use Rattle.std.specs.Prelude.{ℕ, ◌-◌, ◌==◌, List, [], length, map, find, get_or, slice_get, Bool, true, Option}
+use Rattle.std.specs.List.{list_all}
 use Rattle.tuple_schema.specs.declared.schema.Column.{Column}
 use Rattle.list_algebra.specs.Trees.{Tree, trees_in}
 use Rattle.flow_types.specs.declared.fault.NodeId.{NodeId}
+use Rattle.flow_types.specs.declared.node.Kind.{Kind}
+use Rattle.flow_types.specs.declared.node.Kind.TheVariants as kind
 use Rattle.flow_types.specs.declared.node.Node.{Node}
 
 -- a typed flow: its nodes, inputs first and the root last, and the columns of the table's key, where it has one
@@ -37,6 +40,16 @@ columns_of nodes = map (λ n. n.schema) nodes
 -- the numbers of nodes
 abbrev pub ids_of : List Node → List NodeId
 ids_of nodes = map (λ n. n.id) nodes
+
+-- a source that lists the truth's rows in their order; a node that is no source always does
+abbrev pub keeps_order : Kind → Bool
+keeps_order (kind.Source s) = s.seq
+keeps_order (kind.Select test) = true
+keeps_order (kind.Project from) = true
+
+-- the order of the root's rows is fixed: each source keeps its order, until properties of kinds say more
+abbrev pub has_fixed_root : List Node → Bool
+has_fixed_root nodes = list_all (λ n. keeps_order n.kind) nodes
 
 -- the columns of an input
 abbrev pub columns_in : List (List Column) → ℕ → List Column

@@ -1,11 +1,13 @@
 -- What holds of the nodes of a typed flow: each is over its inputs, whose columns it takes.
-use Rattle.std.specs.Prelude.{◌≡◌, ◌≤◌, ◌<◌, ◌==◌, ℕ, List, [], ◌∷◌, length, map, get_or, count_by, option_to_list, All, IsSome, Some, ⊤}
+use Rattle.std.specs.Prelude.{◌≡◌, ◌≤◌, ◌<◌, ◌==◌, ℕ, List, [], ◌∷◌, length, map, get_or, count_by, option_to_list, All, IsSome, IsTrue, Some, true, false, ⊤}
 use Rattle.tuple_schema.specs.declared.schema.Column.{Column}
 use Rattle.tuple_schema.specs.Schemas.{IsSchema}
 use Rattle.list_algebra.specs.Trees.{Tree, Trees, EachNode, EachNodeBelow, roots_of, in_order, all_in_order}
 use Rattle.workflow_file.specs.Kept.{KeepsSource}
 use Rattle.plain_where.specs.Truths.{place_of}
 use Rattle.flow_types.specs.Columns.{IsInt}
+use Rattle.flow_types.specs.Built.{is_built_source}
+use Rattle.flow_types.specs.declared.node.Source.{Source}
 use Rattle.flow_types.specs.declared.node.Kind.{Kind}
 use Rattle.flow_types.specs.declared.node.Kind.TheVariants as kind
 use Rattle.flow_types.specs.declared.node.Node.{Node}
@@ -19,9 +21,15 @@ pub record Takes (input : List Column) (from : List ℕ) (columns : List Column)
   pub each : length columns ≡ length from
   pub ints : All IsInt columns
 
--- a kind that is no source, over one input with these columns, gives these columns
+-- a source that is built at this stage: a CSV file with the columns' names in its header, its rows in the truth's order
+pub record IsBuiltSource (s : Source) : Type 0 where
+  pub csv : s.packed ≡ false
+  pub names : s.any_header ≡ false
+  pub seq : s.seq ≡ true
+
+-- a kind, over one input with these columns where it is no source, gives these columns
 abbrev pub IsFrom : Kind → List Column → List Column → Type 0
-IsFrom (kind.Source file) input columns = ⊤
+IsFrom (kind.Source s) input columns = IsBuiltSource s
 IsFrom (kind.Select test) input columns = (columns ≡ input) × IsSome (place_of (names_in input) test.column)
 IsFrom (kind.Project from) input columns = Takes input from columns
 
@@ -31,15 +39,15 @@ pub record IsTyped (input : List Column) (k : Kind) (columns : List Column) : Ty
   pub schema : IsSchema columns
   pub ints : All IsInt columns
 
--- what a node says keeps the rules
+-- what a node says keeps the rules, and is built
 abbrev pub KeepsText : NodeText → Type 0
-KeepsText (source s) = KeepsSource s
+KeepsText (source s) = KeepsSource s × IsTrue (is_built_source s)
 KeepsText (select test) = ⊤
 KeepsText (project texts) = (1 ≤ length texts) × (length texts ≤ 64)
 
 -- a kind over inputs with these columns gives these columns
 abbrev pub IsOver : Kind → List (List Column) → List Column → Type 0
-IsOver (kind.Source file) inputs columns = inputs ≡ []
+IsOver (kind.Source s) inputs columns = (inputs ≡ []) × IsBuiltSource s
 IsOver (kind.Select test) inputs columns = (inputs ≡ columns ∷ []) × IsSome (place_of (names_in columns) test.column)
 IsOver (kind.Project from) inputs columns = (length inputs ≡ 1) × Takes (columns_in inputs 0) from columns
 

@@ -1,5 +1,5 @@
 -- The typed flow: the columns and the kind of each node, or its first fault.
-use Rattle.std.specs.Prelude.{ℕ, List, [], ◌∷◌, ◌++◌, map, filter_map, slice_get, unwrap_or, Option, Some, None, option_map, option_and_then, option_to_list, Result, Ok, Err}
+use Rattle.std.specs.Prelude.{ℕ, List, [], ◌∷◌, ◌++◌, map, filter_map, slice_get, unwrap_or, codes, bytes_eq, Bool, false, Option, Some, None, option_map, option_and_then, option_to_list, Result, Ok, Err}
 use Rattle.tuple_schema.specs.Stops.{◌>>=◌}
 use Rattle.list_algebra.specs.Trees.{Tree, node, Trees, no_trees, tree, roots_of, in_order}
 use Rattle.tuple_schema.specs.declared.schema.Column.{Column}
@@ -13,6 +13,7 @@ use Rattle.flow_types.specs.declared.fault.SchemaCause.{SchemaCause}
 use Rattle.flow_types.specs.declared.fault.SchemaCause.TheVariants as cause
 use Rattle.flow_types.specs.declared.fault.SchemaFault.{SchemaFault}
 use Rattle.flow_types.specs.declared.node.Node.{Node}
+use Rattle.flow_types.specs.declared.node.Source.{Source}
 use Rattle.flow_types.specs.declared.node.Kind.{Kind}
 use Rattle.flow_types.specs.declared.node.Kind.TheVariants as kind
 use Rattle.flow_types.specs.Names.{name_at, names_in, no_double, no_unknown, cols_if}
@@ -52,11 +53,27 @@ source_cols names s = do
   grouped ← cols_if names s.grouped
   Ok (key, grouped)
 
+-- a text that may be absent is there, and is this word
+abbrev pub is_word : List ℕ → Option (List ℕ) → Bool
+is_word word None = false
+is_word word (Some text) = bytes_eq text word
+
+-- how a source lists its rows, with the columns of its key and those by which it is grouped
+abbrev pub source_of : RawSource → Option (List ℕ) → Option (List ℕ) → Source
+source_of s key grouped = record {
+  file = s.file;
+  packed = is_word (codes "packed") s.format;
+  any_header = is_word (codes "any") s.header;
+  seq = bytes_eq s.promise (codes "seq");
+  key = key;
+  grouped = grouped;
+}
+
 -- the kind and the columns of a source
 abbrev pub typed_source : RawSource → Result (Kind × List Column) SchemaCause
 typed_source s = do
   cols ← source_cols (names_in (map int_column s.columns)) s
-  Ok (kind.Source (record { file = s.file; key = cols.0; grouped = cols.1 }), map int_column s.columns)
+  Ok (kind.Source (source_of s cols.0 cols.1), map int_column s.columns)
 
 -- those of a selection from these columns: its own has to be there
 abbrev pub typed_select : Expr → List Column → Result (Kind × List Column) SchemaCause

@@ -5,7 +5,7 @@ ghost use Rattle.workflow_file.specs.Kept.{KeepsRules};
 ghost use Rattle.flow_types.specs.Columns.{IsInt};
 ghost use Rattle.flow_types.specs.Built.{is_built};
 ghost use Rattle.flow_types.specs.Typed.{typed};
-ghost use Rattle.flow_types.specs.Flows.{number_of, node_of, root_in};
+ghost use Rattle.flow_types.specs.Flows.{number_of, node_of, root_in, has_fixed_root};
 ghost use Rattle.flow_types.specs.Linked.{IsFlow};
 
 use crate::fault::{NodeId, SchemaFault};
@@ -42,6 +42,7 @@ impl Flow {
         ensures same { result.now ≡ self.now.nodes }
         ensures flow { IsFlow self.now }
         ensures ints { All (λ n. All IsInt n.schema) result.now }
+        ensures fixed { IsTrue (has_fixed_root self.now.nodes) }
     {
         &self.nodes
     }

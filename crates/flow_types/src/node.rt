@@ -76,10 +76,16 @@ impl Inputs {
     }
 }
 
-/// A CSV file of whole numbers. Columns that may be absent are None exactly where they are.
+/// A file of whole numbers, and how it lists its rows. Columns that may be absent are None exactly where they are.
 #[derive(Debug, Drop)]
 pub struct Source {
     pub file: Text,
+    /// The file is a packing.
+    pub packed: bool,
+    /// Its header may have any names.
+    pub any_header: bool,
+    /// The file lists the truth's rows in their order.
+    pub seq: bool,
     pub key: Option<Cols>,
     /// The columns of which equal values stand together.
     pub grouped: Option<Cols>,

@@ -10,11 +10,11 @@ ghost use Rattle.flow_types.specs.Columns.{int_column, IsInt};
 ghost use Rattle.flow_types.specs.Names.{names_in, no_double, no_unknown};
 ghost use Rattle.flow_types.specs.Trees.{tree_below};
 ghost use Rattle.flow_types.specs.Graph.{id_of, links_of, links_in, AreWithin};
-ghost use Rattle.flow_types.specs.Built.{is_built};
+ghost use Rattle.flow_types.specs.Built.{is_built, is_built_source};
 ghost use Rattle.flow_types.specs.NodeTexts.{text_seen};
 ghost use Rattle.flow_types.specs.Flows.{ids_of, columns_of, columns_in};
-ghost use Rattle.flow_types.specs.Typed.{new_name, renamed, output_columns, source_cols, projection, typed_source, typed_select, typed_project, typed_text, typed_node, at_node, typed_last, typed_tree, nodes_in};
-ghost use Rattle.flow_types.specs.Linked.{Takes, KeepsText, IsTyped, IsLinked, AreInputs, IsTreeOf};
+ghost use Rattle.flow_types.specs.Typed.{new_name, renamed, output_columns, source_cols, is_word, source_of, projection, typed_source, typed_select, typed_project, typed_text, typed_node, at_node, typed_last, typed_tree, nodes_in};
+ghost use Rattle.flow_types.specs.Linked.{IsBuiltSource, Takes, KeepsText, IsTyped, IsLinked, AreInputs, IsTreeOf};
 
 use crate::fault::{NodeId, SchemaCause, SchemaFault};
 use crate::graph::{fault_at, link_below};
@@ -177,17 +177,42 @@ fn type_text(
 }
 
 fn type_source(alloc: Global, source: &RawSource) -> Result<Typed, Stop<SchemaCause>>
-    requires { KeepsSource source.now }
+    requires kept { KeepsSource source.now }
+    requires built { IsTrue (is_built_source source.now) }
     ensures typed { GivesView (λ t. (t.kind, t.schema)) result (typed_source source.now) }
     ensures made { IfOk result (λ t. (others : List ColumnValue) → IsTyped others t.kind t.schema) }
 {
     let columns = int_columns(alloc, source.columns.items())?;
     let (key, grouped) = source_cols(alloc, &columns, source)?;
-    let file = source.file.copy()?;
     Ok(Typed {
-        kind: Kind::Source(Source { file, key, grouped }),
+        kind: Kind::Source(source_of(source, key, grouped)?),
         schema: Schema::of(columns),
     })
+}
+
+// How a source lists its rows.
+fn source_of(source: &RawSource, key: Option<Cols>, grouped: Option<Cols>) -> Result<Source, Memory>
+    requires { IsTrue (is_built_source source.now) }
+    ensures is { IfOk result (λ s. s ≡ source_of source.now key grouped) }
+    ensures built { IfOk result (λ s. IsBuiltSource s) }
+{
+    Ok(Source {
+        file: source.file.copy()?,
+        packed: is_word(&source.format, "packed"),
+        any_header: is_word(&source.header, "any"),
+        seq: source.promise.as_str() == "seq",
+        key,
+        grouped,
+    })
+}
+
+fn is_word(text: &Option<Text>, word: &str) -> bool
+    ensures { result ≡ is_word word.now text.now }
+{
+    match text {
+        None => false,
+        Some(text) => text.as_str() == word,
+    }
 }
 
 fn int_columns(alloc: Global, texts: &[Text]) -> Result<Vec<Column>, Memory>

@@ -111,7 +111,7 @@ over_fits : (inputs : List Node) (lists : List (List (List Value))) (columns : L
     → (k : Kind) → IsOver k (columns_of inputs) columns → All (Fits columns) (output_of k (columns_of inputs) lists)
 over_fits [] [] columns ints own fit (node.Source file) over = All-nil (Fits columns)
 over_fits [] (rows ∷ lists) columns ints own fit (node.Source file) over = absurd fit
-over_fits (n ∷ inputs) lists columns ints own fit (node.Source file) over = let none = ap length over in absurd (omega arith)
+over_fits (n ∷ inputs) lists columns ints own fit (node.Source file) over = let none = ap length over.0 in absurd (omega arith)
 over_fits inputs lists columns ints own fit (node.Select test) over =
     let one : length (columns_of inputs) ≡ 1 = ap length over.0 in
     let first : columns_in (columns_of inputs) 0 ≡ columns = ap (λ cs. columns_in cs 0) over.0 in

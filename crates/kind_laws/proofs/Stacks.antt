@@ -55,7 +55,7 @@ module _ (truth : Lists) (n : Node) (trees : List (Tree Node)) (linked : IsLinke
     where
       by : (ts : List (Tree Node)) → IsOver (kind.Source file) (columns_of (map root_of ts)) n.schema → list_of truth (node n (trees_of ts)) ≡ truth n
       by [] none = rw is refl
-      by (t ∷ ts) some = let none = ap length some in absurd (omega arith)
+      by (t ∷ ts) some = let none = ap length some.0 in absurd (omega arith)
 
   -- any other gives what its kind makes of the lists below it
   pub made_list : ((file : _) → n.kind ≡ kind.Source file → ⊥)
@@ -75,7 +75,8 @@ module _ (truth : Lists) (n : Node) (trees : List (Tree Node)) (linked : IsLinke
   -- a source has no inputs
   pub no_inputs : (file : _) → n.kind ≡ kind.Source file → count_inputs n ≡ 0
   no_inputs file is =
-      let none : columns_of (map root_of trees) ≡ [] = subst (λ k. IsOver k (columns_of (map root_of trees)) n.schema) is over.over in
+      let source = subst (λ k. IsOver k (columns_of (map root_of trees)) n.schema) is over.over in
+      let none : columns_of (map root_of trees) ≡ [] = source.0 in
       let columns : length (columns_of (map root_of trees)) ≡ length (map root_of trees) = rw length-map refl in
       let ids : length (ids_of (map root_of trees)) ≡ length (map root_of trees) = rw length-map refl in
       let inputs = ap length over.inputs in

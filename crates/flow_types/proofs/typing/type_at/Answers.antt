@@ -1,5 +1,6 @@
 use Rattle.std.proofs.Common.{sym}
 use Rattle.flow_types.specs.NodeTexts.{text_seen}
+use Rattle.flow_types.proofs.KeptTexts.{keeps_text}
 use Rattle.flow_types.proofs.Linking.{typed_over}
 use Rattle.flow_types.proofs.typing.type_at.Goals as goal
 
@@ -13,3 +14,6 @@ returns-clause-linked c =
       schema = made.schema;
       ints = made.ints;
     }
+
+pub type_text-requires-clause-kept : goal.type_text-requires-clause-kept
+type_text-requires-clause-kept c = keeps_text c.args.raw.now c.requires.kept c.requires.built c.args.place (text_seen c.in_ok-text.text) c.in_ok-text.ensures

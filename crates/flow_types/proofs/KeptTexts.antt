@@ -1,0 +1,71 @@
+-- What stands in a flow that keeps its rules and is built keeps its own.
+use Rattle.std.proofs.Common.{◌≡◌, ℕ, zero, suc, ◌-◌, ◌<◌, ◌≤◌, List, [], ◌∷◌, length, get_or, slice_get, codes, bytes_eq, Bool, true, false, refl, sym, ap, ◌∙◌, inl, inr, IfSome, Option, Some, None, option_map, option_and_then, arith}
+use Rattle.std.specs.List.{list_all}
+use Rattle.std.specs.Option.{option_or}
+use Rattle.std.proofs.lemmas.Bool.{and_parts, cases_Bool, both_ways}
+use Rattle.std.proofs.lemmas.List.Folds.{list_all_at}
+use Rattle.std.proofs.lemmas.Option.{same_Some, slice_get_within, slice_get-get_or}
+use Rattle.workflow_file.specs.declared.raw.RawSource.{RawSource}
+use Rattle.workflow_file.specs.declared.raw.RawNode.{RawNode}
+use Rattle.workflow_file.specs.declared.raw.RawFlow.{RawFlow}
+use Rattle.workflow_file.specs.Kept.{KeepsSource, KeepsNode, KeepsRules}
+use Rattle.plain_where.specs.declared.expr.Expr.{Expr}
+use Rattle.plain_where.specs.Texts.{expression_of}
+use Rattle.flow_types.specs.Built.{is_built_source, is_built}
+use Rattle.flow_types.specs.NodeTexts.{NodeText, source, select, project, text_of, text_at}
+use Rattle.flow_types.specs.Linked.{KeepsText}
+
+all_pass : {X : Type 0} (p : X → Bool) (xs : List X) (k : ℕ) (d : X) → list_all p xs ≡ true → k < length xs → p (get_or xs k d) ≡ true
+all_pass p xs k d all h =
+    elim (cases_Bool (p (get_or xs k d))) [
+      | inl passes ↦ passes
+      | inr fails ↦ absurd (both_ways (list_all p xs) (list_all_at p xs k d h fails) all)
+    ]
+
+select_keeps : (o : Option Expr) (text : NodeText) → option_map select o ≡ Some text → KeepsText text
+select_keeps None text is = absurd (cc)
+select_keeps (Some test) text is = let same : select test ≡ text = cc in rw (← same) tt
+
+project_keeps : (n : RawNode) → KeepsNode n → (o : Option (List (List ℕ))) → n.columns ≡ o → (text : NodeText) → option_map project o ≡ Some text → KeepsText text
+project_keeps n keeps None at text is = absurd (cc)
+project_keeps n keeps (Some texts) at text is =
+    let same : project texts ≡ text = cc in
+    let fits = rw at at keeps.columns.fits in
+    rw (← same) (fits.some, fits.few)
+
+node_keeps : (n : RawNode) → KeepsNode n → (text : NodeText) → text_of n ≡ Some text → KeepsText text
+node_keeps n keeps text is =
+    elim (cases_Bool (bytes_eq n.kind (codes "select"))) [
+      | inl same ↦ select_keeps (option_and_then expression_of n.test) text (rw same at is)
+      | inr other ↦ elim (cases_Bool (bytes_eq n.kind (codes "project"))) [
+        | inl same ↦ project_keeps n keeps n.columns refl text (rw (other, same) at is)
+        | inr neither ↦ let none : None ≡ Some text = rw (other, neither) at is in absurd (cc)
+      ]
+    ]
+
+module _ (raw : RawFlow) (keeps : KeepsRules raw) (built : is_built raw ≡ true) (place : ℕ) (text : NodeText) where
+  source_keeps : (s : RawSource) → slice_get raw.sources place ≡ Some s → text_at raw place ≡ Some text → KeepsText text
+  source_keeps s at says =
+      let same : source s ≡ text = same_Some _ _ (rw at at says) in
+      let h = slice_get_within raw.sources place s at in
+      let item : s ≡ get_or raw.sources place s = same_Some _ _ (sym at ∙ slice_get-get_or raw.sources place s h) in
+      let all : list_all is_built_source raw.sources ≡ true = (and_parts _ _ (and_parts _ _ built).1).0 in
+      let kept : KeepsSource s = rw item (keeps.sources place s h) in
+      let fine : is_built_source s ≡ true = rw item (all_pass is_built_source raw.sources place s all h) in
+      rw (← same) (kept, fine)
+
+  behind_keeps : (o : Option RawNode) → slice_get raw.nodes (place - length raw.sources) ≡ o → option_and_then text_of o ≡ Some text → KeepsText text
+  behind_keeps None at says = absurd (cc)
+  behind_keeps (Some n) at says =
+      let k : ℕ = place - length raw.sources in
+      let h = slice_get_within raw.nodes k n at in
+      let item : n ≡ get_or raw.nodes k n = same_Some _ _ (sym at ∙ slice_get-get_or raw.nodes k n h) in
+      let kept : KeepsNode n = rw item (keeps.nodes k n h) in
+      node_keeps n kept text says
+
+  pub keeps_text : text_at raw place ≡ Some text → KeepsText text
+  keeps_text says = by (slice_get raw.sources place) refl
+    where
+      by : (o : Option RawSource) → slice_get raw.sources place ≡ o → KeepsText text
+      by (Some s) at = source_keeps s at says
+      by None past = behind_keeps (slice_get raw.nodes (place - length raw.sources)) refl (rw past at says)
