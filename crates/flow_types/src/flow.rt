@@ -58,6 +58,8 @@ impl Flow {
     pub fn root_node(&self) -> &Node
         ensures last { Some result.now ≡ root_in self.now.nodes }
         ensures ints { All IsInt result.now.schema }
+        ensures flow { IsFlow self.now }
+        ensures fixed { IsTrue (has_fixed_root self.now.nodes) }
     {
         &self.nodes[self.nodes.len() - 1]
     }

@@ -1,3 +1,5 @@
 pub mod Outputs
 pub mod Wholes
 pub mod Laws
+pub mod Promises
+pub mod Runs

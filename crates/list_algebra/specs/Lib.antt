@@ -1,4 +1,5 @@
 pub mod Bags
+pub mod Keys
 pub mod Outputs
 pub mod Properties
 pub mod Trees

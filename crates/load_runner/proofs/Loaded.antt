@@ -1,6 +1,6 @@
 -- The promise of a load, for each way in which it ends.
 use Rattle.std.proofs.Common.{◌≡◌, ◌≢◌, ◌⊎◌, ◌≤◌, inl, inr, ◌∙◌, ℕ, ◌+◌, List, [], ◌++◌, length, take, drop, All, IfOk, IfSome, OnOk, Bool, true, false, IsTrue, Option, Some, None, Result, Ok, Err, refl, sym, ap, subst, arith}
-use Rattle.outside.specs.Moments.{rose_later}
+use Rattle.outside.specs.Moments.{rose_later, each_settled}
 use Rattle.outside.specs.Words.{Rose, Each, DiskState, Elapses, IsSettled, Spares, AtEachMoment, Files, DepotState, Consults}
 use Rattle.tuple_schema.specs.declared.value.Value.{Value}
 use Rattle.tuple_schema.specs.declared.schema.Column.{Column}
@@ -15,30 +15,40 @@ use Rattle.commit_disk.specs.Attach.{VerdictsAgree}
 use Rattle.commit_disk.specs.Crashes.{HasTable, LosesNothing}
 use Rattle.commit_disk.specs.Growth.{grows_still, nothing_lost}
 use Rattle.table_read.specs.Rows.{table_rows}
-use Rattle.table_write.specs.Cut.{together}
+use Rattle.table_write.specs.Cut.{cut, together}
 use Rattle.table_write.specs.Adds.{with_blocks, AllHaveRoom, IsFullBehind}
 use Rattle.table_write.specs.Rows.{HoldsRows, HoldsFirst}
 use Rattle.flow_types.specs.declared.node.Node.{Node}
-use Rattle.flow_types.specs.Flows.{root_in}
+use Rattle.flow_types.specs.Flows.{root_in, has_fixed_root}
+use Rattle.kind_laws.specs.Runs.{at_root}
 use Rattle.load_runner.specs.declared.fault.LoadFault.{LoadFault}
 use Rattle.load_runner.specs.declared.fault.LoadFault.TheVariants as fault
 use Rattle.load_runner.specs.declared.report.Report.{Report}
 use Rattle.load_runner.specs.Faults.{IsTableFault}
 use Rattle.load_runner.specs.Found.{State, rows, wrong, other, IsFound}
-use Rattle.load_runner.specs.Jobs.{Job, Answer, columns_of, IsMeaning, missing_blocks}
+use Rattle.load_runner.specs.Jobs.{Job, Answer, columns_of, run_blocks, IsMade, missing_blocks}
 use Rattle.load_runner.specs.Loads.{IsNextGate, IsComplete, IsFull, StoppedAdding, Leaves, AddsTo, FailsOutside, Stays, Does, RestsOn, Loads}
-use Rattle.load_runner.specs.Reports.{report_of, ended_report}
+use Rattle.load_runner.specs.Reports.{report_of, ended_report, skip_report}
 use Rattle.load_runner.specs.Resuming.{IsUnwritten, IsCaused, AllAdded}
-use Rattle.load_runner.specs.Safe.{IsStopped}
-use Rattle.load_runner.specs.Sources.{whole_in}
+use Rattle.load_runner.specs.Safe.{IsStopped, IsSafe, HoldsAll}
+use Rattle.load_runner.specs.Sources.{contents_in, IsMeaning}
 use Rattle.load_runner.specs.Starts.{IsAt, is_ended, count_of, gate_of, Starts}
 use Rattle.load_runner.proofs.Begun.{BlocksHold}
-use Rattle.load_runner.proofs.Ran.{CutIs, StillFirst, StillEnded, Ran, in_rows, kept_all, safe_all, grows_all, grows_blocks, committed, olds, held, decodes, at, is_at, counted, adds, added_rows}
-use Rattle.load_runner.proofs.Tables.{found_once, not_both}
+use Rattle.load_runner.proofs.Ran.{CutIs, StillFirst, StillEnded, CanResume, MeansOne, Ran, in_rows, kept_all, safe_all, grows_all, grows_blocks, begins_committed, committed, olds, held, decodes, at, is_at, counted, adds, added_rows}
+use Rattle.load_runner.specs.Standing.{Stands}
+use Rattle.load_runner.proofs.Meanings.{Resumed}
+use Rattle.load_runner.proofs.Standings.{Lengths, all_of_stands, all_rows}
+use Rattle.load_runner.proofs.Tables.{found_once, not_both, rows_once}
 
 -- the depot was not asked
 pub unasked : (depot : DepotState) → Consults depot depot
 unasked depot = record { files = refl; faults = omega arith; served = omega arith }
+
+-- where it is complete, each image is an ended table of all of the meaning
+abbrev pub Completes : Job → DepotState → DiskState → DiskState → Answer → Type 0
+Completes job depot disk now answer = (files : Files) → depot.files ≡ Some files → (whole : List (List Value)) → IsMeaning job.flow files whole
+    → IsTrue disk.honest → IsSafe job.text (columns_of job) (has_fixed_root job.flow.nodes) whole [] disk.file
+    → IfOk answer (λ _. Each now.may_leave (HoldsAll job.text (columns_of job) (has_fixed_root job.flow.nodes) whole))
 
 -- Nothing was written.
 
@@ -106,16 +116,18 @@ module _ (agree : VerdictsAgree) (once : HoldsOnce) (job : Job) (depot : DepotSt
   -- where nothing was written, all that a load promises of images holds
   spared : StillFirst → StillEnded → (answer : Answer) → Elapses disk now
       → (IsTrue disk.honest → (state : State) → IsFound disk.file job.text (columns_of job) state → Does job depot depot disk now answer state)
-      → RestsOn job depot depot disk now answer → Loads job depot depot disk now answer
-  spared first ended answer elapses does rests = record {
+      → RestsOn job depot depot disk now answer → Completes job depot disk now answer → Loads job depot depot disk now answer
+  spared first ended answer elapses does rests completes = record {
     consults = unasked depot;
     elapses = elapses;
     loses_nothing = nothing_lost disk now spares.nothing_new;
     kept = λ acknowledged each is image left. each image (spares.nothing_new.each is image left);
     safe = λ files told whole acknowledged means each is image left. each image (spares.nothing_new.each is image left);
+    completes = completes;
     grows = λ is each. in_rows first ended job.text (columns_of job) disk now (grows_still job.text disk now is spares.nothing_new) (λ image left. each image (spares.nothing_new.each is image left));
     does = does;
     rests = rests;
+    served = λ files told. omega arith;
   }
 
   refused_rests : (s : Stop LoadFault) → IfFault (stopped s) (IsTableFault (RestsOn job depot depot disk now (Err (Fault fault.Disk)))) → RestsOn job depot depot disk now (Err s)
@@ -136,22 +148,35 @@ module _ (agree : VerdictsAgree) (once : HoldsOnce) (job : Job) (depot : DepotSt
       spared first ended (Err s) elapses
       (λ is. refused_does (RestsOn job depot depot disk now (Err (Fault fault.Disk))) s (λ place e. no_table place e is) (λ e. differs e is) cause)
       (refused_rests s cause)
+      (λ files told whole means is safe. tt)
 
   -- a load over an ended table
-  pub rested : StillFirst → StillEnded → (report : Report) → Elapses disk now
+  pub rested : StillFirst → StillEnded → Lengths → (report : Report) → Elapses disk now → (IsTrue disk.honest → IsSettled now × (now.file ≡ disk.file))
       → (IsTrue disk.honest → (committed : List (List Value)) × HoldsRows disk.file job.text (columns_of job) committed true × (report ≡ ended_report (length committed)))
       → Loads job depot depot disk now (Ok report)
-  rested first ended report elapses holds =
+  rested first ended lengths report elapses settled holds =
       spared first ended (Ok report) elapses
       (λ is state found.
       let has = holds is in
       subst (Does job depot depot disk now (Ok report)) (found_once agree once disk.file job.text (columns_of job) (rows has.0 true) state has.1 found)
       (record { unread = refl; spares = spares; answers = inl (ap Ok has.2) }))
       tt
+      (λ files told whole means is safe.
+      let has = holds is in
+      let same = rows_once agree once disk.file job.text (columns_of job) safe.rows has.0 safe.ended true safe.holds has.1 in
+      let stands = subst (λ (e : Bool). Stands (has_fixed_root job.flow.nodes) whole safe.rows e) same.1 safe.stands in
+      let all : HoldsAll job.text (columns_of job) (has_fixed_root job.flow.nodes) whole disk.file = record {
+        rows = safe.rows;
+        holds = subst (λ (e : Bool). HoldsRows disk.file job.text (columns_of job) safe.rows e) same.1 safe.holds;
+        all = all_of_stands lengths (has_fixed_root job.flow.nodes) whole safe.rows stands;
+      } in
+      λ image left. each_settled (HoldsAll job.text (columns_of job) (has_fixed_root job.flow.nodes) whole) now (settled is).0
+      (subst (HoldsAll job.text (columns_of job) (has_fixed_root job.flow.nodes) whole) (sym (settled is).1) all) image left)
 
 -- Blocks were added.
 
-module _ (agree : VerdictsAgree) (once : HoldsOnce) (law : BlocksHold) (cuts : CutIs) (job : Job) (told : Option Files) (found_of : Attached) (old mid new : DiskState) (ran : Ran job told found_of old mid new) where
+module _ (agree : VerdictsAgree) (once : HoldsOnce) (law : BlocksHold) (cuts : CutIs) (job : Job) (told : Option Files) (found_of : Attached) (old mid new : DiskState) (ran : Ran job told found_of old mid new)
+    (can : CanResume job told) where
   abbrev rows_of : List (List Value)
   rows_of = committed agree once law job told found_of old mid new ran
 
@@ -165,30 +190,34 @@ module _ (agree : VerdictsAgree) (once : HoldsOnce) (law : BlocksHold) (cuts : C
   by_count : (P : ℕ → Type 0) → P (count_of found_of) → P (length rows_of)
   by_count P = subst P (counted agree once law job told found_of old mid new ran)
 
-  complete : 1 ≤ job.batch → (report : Report) (root : Node) → Some root ≡ root_in job.nodes → IsSettled new → AllAdded job.nodes told job.text job.batch found_of mid.file new.file report
+  -- the blocks of a trimmed run are those that are missing
+  by_run : (whole : List (List Value)) (made : IsMade job.flow told whole) (P : List (List (List Value)) → Type 0) → P (missing_blocks job.batch (length rows_of) whole)
+      → P (run_blocks job (can rows_of whole made).run)
+  by_run whole made P = subst P (ap (cut job.batch) (sym (can rows_of whole made).rest))
+
+  complete : 1 ≤ job.batch → (report : Report) (root : Node) → Some root ≡ root_in job.flow.nodes → IsSettled new → AllAdded job.flow told job.text job.batch found_of mid.file new.file report
       → IsComplete job told rows_of olds_of (gate_of found_of job.text) new report
   complete some report root last settled all =
+      let r = can rows_of all.whole all.made in
       let Blocks : ℕ → List (List (List Value)) = λ n. missing_blocks job.batch n all.whole in
       let holds = by_count (λ n. Holds new.file job.text (with_blocks olds_of (Blocks n)) true) (all.holds olds_of at_olds) in
       let cut_is : drop (length rows_of) all.whole ≡ together (Blocks (length rows_of)) = (cuts job.batch (drop (length rows_of) all.whole) some).whole in
       let own : All (IsRowOf (columns_of job)) (drop (length rows_of) all.whole) = by_count (λ n. All (IsRowOf (columns_of job)) (drop n all.whole)) all.of_columns in
-      let reported : report ≡ report_of root.id (count_of found_of) (length all.whole) = rw (← last) at all.reported in
+      let reported : report ≡ skip_report root.id (count_of found_of) (length all.whole) = rw (← last) at all.reported in
       record {
-        whole = all.whole;
-        meaning = all.meaning;
-        blocks = holds;
-        rows = subst (λ rs. HoldsRows new.file job.text (columns_of job) (rows_of ++ rs) true) (sym cut_is)
+        run = r.run;
+        resumes = r.resumes;
+        blocks = by_run all.whole all.made (λ bs. Holds new.file job.text (with_blocks olds_of bs) true) holds;
+        rows = subst (λ rs. HoldsRows new.file job.text (columns_of job) (rows_of ++ rs) true) (sym (r.rest ∙ cut_is))
             (added_rows agree once law job told found_of old mid new ran new.file (Blocks (length rows_of)) true holds (subst (λ rs. All (IsRowOf (columns_of job)) rs) cut_is own));
         settled = settled;
-        room = by_count (λ n. AllHaveRoom (gate_of found_of job.text) (Blocks n)) all.room;
-        root = root;
-        is_root = sym last;
-        reported = by_count (λ n. report ≡ report_of root.id n (length all.whole)) reported;
+        room = by_run all.whole all.made (λ bs. AllHaveRoom (gate_of found_of job.text) bs) (by_count (λ n. AllHaveRoom (gate_of found_of job.text) (Blocks n)) all.room);
+        reported = by_count (λ n. report ≡ skip_report root.id n (length all.whole)) reported ∙ sym (r.reported root last);
       }
 
   -- what a load that is full tells
   abbrev pub Fills : Type 0
-  Fills = (whole : List (List Value)) × IsMeaning job.nodes told whole
+  Fills = (whole : List (List Value)) × IsMade job.flow told whole
       × ((count : ℕ) × IsFullBehind (gate_of found_of job.text) (missing_blocks job.batch (count_of found_of) whole) count
       × All (IsRowOf (columns_of job)) (together (take count (missing_blocks job.batch (count_of found_of) whole)))
       × (IsTrue mid.honest → (olds : List Stored) → IsAt found_of mid.file job.text olds → Holds new.file job.text (with_blocks olds (take count (missing_blocks job.batch (count_of found_of) whole))) false))
@@ -196,33 +225,37 @@ module _ (agree : VerdictsAgree) (once : HoldsOnce) (law : BlocksHold) (cuts : C
   full : IsSettled new → Fills → IsFull job told rows_of olds_of (gate_of found_of job.text) new
   full settled fills =
       let whole = fills.0 in
+      let made = fills.1 in
       let count = fills.2.0 in
+      let r = can rows_of whole made in
       let Taken : ℕ → List (List (List Value)) = λ n. take count (missing_blocks job.batch n whole) in
       let holds = by_count (λ n. Holds new.file job.text (with_blocks olds_of (Taken n)) false) (fills.2.3 (ran.began.honest ∙ ran.honest) olds_of at_olds) in
       record {
-        whole = whole;
-        meaning = fills.1;
+        run = r.run;
+        resumes = r.resumes;
         count = count;
-        full = by_count (λ n. IsFullBehind (gate_of found_of job.text) (missing_blocks job.batch n whole) count) fills.2.1;
-        blocks = holds;
-        rows = added_rows agree once law job told found_of old mid new ran new.file (Taken (length rows_of)) false holds (by_count (λ n. All (IsRowOf (columns_of job)) (together (Taken n))) fills.2.2);
+        full = by_run whole made (λ bs. IsFullBehind (gate_of found_of job.text) bs count) (by_count (λ n. IsFullBehind (gate_of found_of job.text) (missing_blocks job.batch n whole) count) fills.2.1);
+        blocks = by_run whole made (λ bs. Holds new.file job.text (with_blocks olds_of (take count bs)) false) holds;
+        rows = by_run whole made (λ bs. HoldsRows new.file job.text (columns_of job) (rows_of ++ together (take count bs)) false)
+            (added_rows agree once law job told found_of old mid new ran new.file (Taken (length rows_of)) false holds (by_count (λ n. All (IsRowOf (columns_of job)) (together (Taken n))) fills.2.2));
         settled = settled;
       }
 
   -- what a load that stopped tells
   abbrev pub StopsAt : Type 0
-  StopsAt = (whole : List (List Value)) × IsMeaning job.nodes told whole × IsStopped mid.file job.text olds_of (missing_blocks job.batch (count_of found_of) whole) new.may_leave
+  StopsAt = (whole : List (List Value)) × IsMade job.flow told whole × IsStopped mid.file job.text olds_of (missing_blocks job.batch (count_of found_of) whole) new.may_leave
 
   stopped_adding : StopsAt → StoppedAdding job told rows_of olds_of old new
   stopped_adding stops = record {
-    whole = stops.0;
-    meaning = stops.1;
-    stopped = subst (λ (file : List ℕ). IsStopped file job.text olds_of (missing_blocks job.batch (length rows_of) stops.0) new.may_leave) (ran.syncs.file ran.honest)
-        (by_count (λ n. IsStopped mid.file job.text olds_of (missing_blocks job.batch n stops.0) new.may_leave) stops.2);
+    run = (can rows_of stops.0 stops.1).run;
+    resumes = (can rows_of stops.0 stops.1).resumes;
+    stopped = by_run stops.0 stops.1 (λ bs. IsStopped old.file job.text olds_of bs new.may_leave)
+        (subst (λ (file : List ℕ). IsStopped file job.text olds_of (missing_blocks job.batch (length rows_of) stops.0) new.may_leave) (ran.syncs.file ran.honest)
+        (by_count (λ n. IsStopped mid.file job.text olds_of (missing_blocks job.batch n stops.0) new.may_leave) stops.2));
   }
 
-  leaves : 1 ≤ job.batch → (answer : Answer) (root : Node) → Some root ≡ root_in job.nodes
-      → IfOk answer (λ report. AllAdded job.nodes told job.text job.batch found_of mid.file new.file report)
+  leaves : 1 ≤ job.batch → (answer : Answer) (root : Node) → Some root ≡ root_in job.flow.nodes
+      → IfOk answer (λ report. AllAdded job.flow told job.text job.batch found_of mid.file new.file report)
       → OnOk answer (IsSettled new) → (answer ≡ Err (Fault fault.Full) → IsSettled new) → (answer ≡ Err (Fault fault.Full) → Fills) → (answer ≡ Err (Fault fault.Disk) → StopsAt)
       → (IsUnwritten answer → Spares old new) → ((place : ℕ) → answer ≢ Err (Fault (fault.NotATable place))) → answer ≢ Err (Fault fault.WorkflowDiffers)
       → Leaves job told rows_of olds_of (gate_of found_of job.text) old new answer
@@ -235,8 +268,8 @@ module _ (agree : VerdictsAgree) (once : HoldsOnce) (law : BlocksHold) (cuts : C
   leaves some (Err (Fault (fault.NotATable place))) root last done settled full_settled fills stops unwritten table flow = absurd (table place refl)
   leaves some (Err (Fault fault.WorkflowDiffers)) root last done settled full_settled fills stops unwritten table flow = absurd (flow refl)
 
-  adding : 1 ≤ job.batch → (answer : Answer) (root : Node) → Some root ≡ root_in job.nodes
-      → IfOk answer (λ report. AllAdded job.nodes told job.text job.batch found_of mid.file new.file report)
+  adding : 1 ≤ job.batch → (answer : Answer) (root : Node) → Some root ≡ root_in job.flow.nodes
+      → IfOk answer (λ report. AllAdded job.flow told job.text job.batch found_of mid.file new.file report)
       → OnOk answer (IsSettled new) → (answer ≡ Err (Fault fault.Full) → IsSettled new) → (answer ≡ Err (Fault fault.Full) → Fills) → (answer ≡ Err (Fault fault.Disk) → StopsAt)
       → (IsUnwritten answer → Spares old new) → ((place : ℕ) → answer ≢ Err (Fault (fault.NotATable place))) → answer ≢ Err (Fault fault.WorkflowDiffers)
       → AddsTo job told rows_of old new answer
@@ -245,13 +278,13 @@ module _ (agree : VerdictsAgree) (once : HoldsOnce) (law : BlocksHold) (cuts : C
     decodes = decodes agree once law job told found_of old mid new ran;
     gate = gate_of found_of job.text;
     at = at agree once law job told found_of old mid new ran;
-    moments = adds agree once law job told found_of old mid new ran;
+    moments = adds agree once law job told found_of old mid new ran can;
     leaves = leaves some answer root last done settled full_settled fills stops unwritten table flow;
   }
 
   -- a load that went on, on an honest disk
-  pub went_on : 1 ≤ job.batch → (depot still : DepotState) → depot.files ≡ told → (answer : Answer) (root : Node) → Some root ≡ root_in job.nodes
-      → IfOk answer (λ report. AllAdded job.nodes told job.text job.batch found_of mid.file new.file report)
+  pub went_on : 1 ≤ job.batch → (depot still : DepotState) → depot.files ≡ told → (answer : Answer) (root : Node) → Some root ≡ root_in job.flow.nodes
+      → IfOk answer (λ report. AllAdded job.flow told job.text job.batch found_of mid.file new.file report)
       → OnOk answer (IsSettled new) → (answer ≡ Err (Fault fault.Full) → IsSettled new) → (answer ≡ Err (Fault fault.Full) → Fills) → (answer ≡ Err (Fault fault.Disk) → StopsAt)
       → (IsUnwritten answer → Spares old new) → ((place : ℕ) → answer ≢ Err (Fault (fault.NotATable place))) → answer ≢ Err (Fault fault.WorkflowDiffers)
       → (state : State) → IsFound old.file job.text (columns_of job) state → Does job depot still old new answer state
@@ -260,9 +293,29 @@ module _ (agree : VerdictsAgree) (once : HoldsOnce) (law : BlocksHold) (cuts : C
       (found_once agree once old.file job.text (columns_of job) (rows rows_of false) state (held agree once law job told found_of old mid new ran) found)
       (subst (λ (o : Option Files). AddsTo job o rows_of old new answer) (sym are) (adding some answer root last done settled full_settled fills stops unwritten table flow))
 
+  -- and where it is complete, the table has all of the meaning
+  pub all_held : 1 ≤ job.batch → MeansOne job told → IsTrue (has_fixed_root job.flow.nodes) → (files : Files) → told ≡ Some files → (whole : List (List Value)) → IsMeaning job.flow files whole
+      → IsSafe job.text (columns_of job) (has_fixed_root job.flow.nodes) whole [] old.file → (answer : Answer)
+      → IfOk answer (λ report. AllAdded job.flow told job.text job.batch found_of mid.file new.file report) → OnOk answer (IsSettled new)
+      → IfOk answer (λ _. Each new.may_leave (HoldsAll job.text (columns_of job) (has_fixed_root job.flow.nodes) whole))
+  all_held some means_one fixed files are whole means safe (Err s) done settled = tt
+  all_held some means_one fixed files are whole means safe (Ok report) all settled =
+      let begins = begins_committed agree once law job told found_of old mid new ran fixed whole safe in
+      let made : all.whole ≡ whole = means_one files are whole all.whole means all.made in
+      let Blocks : ℕ → List (List (List Value)) = λ n. missing_blocks job.batch n all.whole in
+      let holds = by_count (λ n. Holds new.file job.text (with_blocks olds_of (Blocks n)) true) (all.holds olds_of at_olds) in
+      let cut_is : drop (length rows_of) all.whole ≡ together (Blocks (length rows_of)) = (cuts job.batch (drop (length rows_of) all.whole) some).whole in
+      let own : All (IsRowOf (columns_of job)) (drop (length rows_of) all.whole) = by_count (λ n. All (IsRowOf (columns_of job)) (drop n all.whole)) all.of_columns in
+      let rows_are : rows_of ++ together (Blocks (length rows_of)) ≡ whole =
+      ap (λ rs. rows_of ++ rs) (sym cut_is ∙ ap (drop (length rows_of)) made) ∙ all_rows rows_of whole begins in
+      let held : HoldsRows new.file job.text (columns_of job) whole true = subst (λ rs. HoldsRows new.file job.text (columns_of job) rs true) rows_are
+          (added_rows agree once law job told found_of old mid new ran new.file (Blocks (length rows_of)) true holds (subst (λ rs. All (IsRowOf (columns_of job)) rs) cut_is own)) in
+      each_settled (HoldsAll job.text (columns_of job) (has_fixed_root job.flow.nodes) whole) new settled
+      (record { rows = whole; holds = held; all = record { bag = λ tuple. refl; list = λ _. refl } })
+
 -- what the answer of a load that went on rests on
 pub rests_of : (job : Job) (depot still : DepotState) (old mid new : DiskState) (answer : Answer) → old.faults ≤ mid.faults
-    → (answer ≡ Err (Fault fault.NotBuilt) → (files : Files) → depot.files ≡ Some files → whole_in job.nodes files ≡ None)
+    → (answer ≡ Err (Fault fault.NotBuilt) → (files : Files) → depot.files ≡ Some files → contents_in job.flow.nodes files ≡ None)
     → IfFault answer (IsCaused (Rose depot.faults still.faults) (Rose mid.faults new.faults)) → RestsOn job depot still old new answer
 rests_of job depot still old mid new (Ok report) later none cause = tt
 rests_of job depot still old mid new (Err Memory) later none cause = tt

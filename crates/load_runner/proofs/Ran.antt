@@ -17,11 +17,14 @@ use Rattle.table_write.specs.Adds.{with_blocks, AllHaveRoom, IsFullBehind}
 use Rattle.table_write.specs.Rows.{HoldsRows, HoldsFirst, HoldsEnded, stored_of}
 use Rattle.load_runner.specs.Standing.{Begins, Stands}
 use Rattle.load_runner.specs.Safe.{IsSafe, TableGrows, IsGrown, IsStopped}
-use Rattle.load_runner.specs.Sources.{whole_in}
+use Rattle.load_runner.specs.Sources.{IsMeaning}
 use Rattle.load_runner.specs.Starts.{Starts, IsAt, count_of, is_ended, gate_of}
-use Rattle.load_runner.specs.Jobs.{Job, columns_of, IsMeaning, missing_blocks}
-use Rattle.load_runner.specs.Loads.{IsNextGate, AddsMissing}
-use Rattle.load_runner.proofs.Standings.{begins_both, begins_longer, front_stands}
+use Rattle.load_runner.specs.Jobs.{Job, columns_of, run_blocks, IsMade, missing_blocks}
+use Rattle.load_runner.specs.Loads.{IsNextGate, AddsRun}
+use Rattle.list_algebra.specs.Bags.{Tuple}
+use Rattle.flow_types.specs.Flows.{has_fixed_root}
+use Rattle.load_runner.proofs.Meanings.{Resumed}
+use Rattle.load_runner.proofs.Standings.{Appended, begins_both, begins_longer, front_stands}
 use Rattle.load_runner.proofs.Tables.{rows_once, not_both}
 use Rattle.load_runner.proofs.Begun.{Begun, begun, BlocksHold, grown_rows, begins_first, held_first}
 
@@ -50,6 +53,13 @@ in_rows still ended text columns old new grows held = record {
       ended text was.0 image columns was.2 (each was.0 was.1);
 }
 
+-- of what the flow makes of the contents there is a trimmed run, and it is what the flow means
+abbrev pub CanResume : Job → Option Files → Type 0
+CanResume job told = (committed whole : List Tuple) → IsMade job.flow told whole → Resumed job.flow told committed whole
+
+abbrev pub MeansOne : Job → Option Files → Type 0
+MeansOne job told = (files : Files) → told ≡ Some files → (whole made : List Tuple) → IsMeaning job.flow files whole → IsMade job.flow told made → made ≡ whole
+
 -- the table was read on an honest disk, and then the load went on from what was found
 pub record Ran (job : Job) (told : Option Files) (found : Attached) (old mid new : DiskState) : Type 0 where
   pub honest : IsTrue old.honest
@@ -60,7 +70,7 @@ pub record Ran (job : Job) (told : Option Files) (found : Attached) (old mid new
   pub starts : Starts found mid.file job.text (columns_of job)
   pub unended : is_ended found ≡ false
   pub moments : (olds : List Stored) → IsAt found mid.file job.text olds
-      → OnlyReads mid new ⊎ ((whole : List (List Value)) × IsMeaning job.nodes told whole
+      → OnlyReads mid new ⊎ ((whole : List (List Value)) × IsMade job.flow told whole
       × Each (LeftBetween mid new) (IsGrown mid.file job.text (columns_of job) olds (missing_blocks job.batch (count_of found) whole)))
   pub grows : (olds : List Stored) → IsAt found mid.file job.text olds → OnlyReads mid new ⊎ Grows job.text mid new
 
@@ -105,20 +115,31 @@ module _ (agree : VerdictsAgree) (once : HoldsOnce) (law : BlocksHold) (job : Jo
       (λ is image it. each image (ran.spares.nothing_new.each is image it))
       (λ _. kept_after acknowledged (subst (HoldsFirst job.text columns acknowledged) (sym same) (each old.file (old.reads_image ran.honest))))
 
-  pub safe_all : CutIs → 1 ≤ job.batch → (files : Files) → told ≡ Some files → (whole acknowledged : List (List Value)) → whole_in job.nodes files ≡ Some whole
-      → Each old.may_leave (IsSafe job.text columns whole acknowledged) → AtEachMoment old new (IsSafe job.text columns whole acknowledged)
+  -- the committed rows, in a table that is safe for a meaning
+  begins_whole : IsTrue (has_fixed_root job.flow.nodes) → (whole acknowledged : List (List Value))
+      → IsSafe job.text columns (has_fixed_root job.flow.nodes) whole acknowledged old.file → Begins acknowledged start.committed × Begins start.committed whole
   unfolding start
-  safe_all cuts some files are whole acknowledged means each =
-      let safe : IsSafe job.text columns whole acknowledged mid.file = subst (IsSafe job.text columns whole acknowledged) (sym same) (each old.file (old.reads_image ran.honest)) in
-      let found_rows = rows_once agree once mid.file job.text columns start.committed safe.rows (is_ended found) safe.ended start.holds safe.holds in
-      let begins : Begins acknowledged start.committed = subst (λ (rows : List (List Value)). Begins acknowledged rows) (sym found_rows.0) safe.begins in
-      let stands : Begins start.committed whole = subst (λ (rows : List (List Value)). Begins rows whole) (sym found_rows.0) safe.stands.begins in
-      each_on (IsSafe job.text columns whole acknowledged) old mid new ran.began ran.time
+  begins_whole fixed whole acknowledged was =
+      let safe : IsSafe job.text columns (has_fixed_root job.flow.nodes) whole acknowledged mid.file = subst (IsSafe job.text columns (has_fixed_root job.flow.nodes) whole acknowledged) (sym same) was in
+      let found_rows = rows_once agree once mid.file job.text columns start.committed safe.rows (is_ended found) safe.ended start.holds safe.holds in (
+        subst (λ (rows : List (List Value)). Begins acknowledged rows) (sym found_rows.0) safe.begins,
+        subst (λ (rows : List (List Value)). Begins rows whole) (sym found_rows.0) (safe.stands.begins fixed),
+      )
+
+  pub safe_all : CutIs → Appended → MeansOne job told → IsTrue (has_fixed_root job.flow.nodes) → 1 ≤ job.batch → (files : Files) → told ≡ Some files → (whole acknowledged : List (List Value))
+      → IsMeaning job.flow files whole → Each old.may_leave (IsSafe job.text columns (has_fixed_root job.flow.nodes) whole acknowledged)
+      → AtEachMoment old new (IsSafe job.text columns (has_fixed_root job.flow.nodes) whole acknowledged)
+  unfolding start
+  safe_all cuts appended means_one fixed some files are whole acknowledged means each =
+      let Safe : List ℕ → Type 0 = IsSafe job.text columns (has_fixed_root job.flow.nodes) whole acknowledged in
+      let was : Safe old.file = each old.file (old.reads_image ran.honest) in
+      let begins = begins_whole fixed whole acknowledged was in
+      each_on Safe old mid new ran.began ran.time
       (λ is image it. each image (ran.spares.nothing_new.each is image it))
       (λ _. ⊎_elim
-      (read_on_each (IsSafe job.text columns whole acknowledged) safe)
+      (read_on_each Safe (subst Safe (sym same) was))
       (λ grown image it.
-      let same_whole : grown.0 ≡ whole = let e : Some grown.0 ≡ Some whole = sym (grown.1 files are) ∙ means in cc in
+      let same_whole : grown.0 ≡ whole = means_one files are whole grown.0 means grown.1 in
       let blocks = blocks_of grown.0 in
       let has = grown_rows law mid.file image job.text columns start.olds start.committed blocks start.decodes (grown.2 image it) in
       let missing : drop (length start.committed) whole ≡ together blocks =
@@ -127,8 +148,8 @@ module _ (agree : VerdictsAgree) (once : HoldsOnce) (law : BlocksHold) (job : Jo
         rows = start.committed ++ together (take has.count blocks);
         ended = has.ended;
         holds = has.holds;
-        begins = begins_both acknowledged start.committed _ begins (begins_longer start.committed (together (take has.count blocks)));
-        stands = front_stands whole start.committed blocks has.count has.ended stands missing has.all;
+        begins = begins_both acknowledged start.committed _ begins.0 (begins_longer start.committed (together (take has.count blocks)));
+        stands = front_stands appended (has_fixed_root job.flow.nodes) whole start.committed blocks has.count has.ended begins.1 missing has.all;
       })
       (ran.moments start.olds (start.at ran.unended)))
 
@@ -159,6 +180,11 @@ module _ (agree : VerdictsAgree) (once : HoldsOnce) (law : BlocksHold) (job : Jo
       subst (λ (b : Bool). HoldsRows old.file job.text columns start.committed b) ran.unended
       (subst (λ (file : List ℕ). HoldsRows file job.text columns start.committed (is_ended found)) same start.holds)
 
+  pub begins_committed : IsTrue (has_fixed_root job.flow.nodes) → (whole : List (List Value))
+      → IsSafe job.text columns (has_fixed_root job.flow.nodes) whole [] old.file → Begins committed whole
+  unfolding start committed
+  begins_committed fixed whole was = (begins_whole fixed whole [] was).1
+
   pub decodes : table_rows columns (16 + length job.text) olds ≡ Ok committed
   unfolding start committed olds
   decodes = start.decodes
@@ -180,15 +206,20 @@ module _ (agree : VerdictsAgree) (once : HoldsOnce) (law : BlocksHold) (job : Jo
   in_count P whole = subst (λ (n : ℕ). P (missing_blocks job.batch n whole)) counted
 
   -- each image is one from before, or has grown
-  pub adds : LeavesNothingNew old new ⊎ AddsMissing job told committed olds old new
-  adds = ⊎_elim
+  pub adds : CanResume job told → LeavesNothingNew old new ⊎ AddsRun job told committed olds old new
+  adds can = ⊎_elim
       (λ reads. inl (nothing_new_on old mid new ran.began ran.time ran.spares.nothing_new reads.nothing_new))
-      (λ some. inr (record {
-        whole = some.0;
-        meaning = some.1;
-        each = each_on (λ image. old.may_leave image ⊎ IsGrown old.file job.text columns olds (missing_blocks job.batch (length committed) some.0) image) old mid new ran.began ran.time
+      (λ some.
+      let r = can committed some.0 some.1 in
+      let blocks : missing_blocks job.batch (length committed) some.0 ≡ run_blocks job r.run = ap (cut job.batch) (sym r.rest) in
+      inr (record {
+        run = r.run;
+        resumes = r.resumes;
+        each = each_on (λ image. old.may_leave image ⊎ IsGrown old.file job.text columns olds (run_blocks job r.run) image) old mid new ran.began ran.time
             (λ is image it. inl (ran.spares.nothing_new.each is image it))
-            (λ _ image it. inr (subst (λ (file : List ℕ). IsGrown file job.text columns olds (missing_blocks job.batch (length committed) some.0) image) same (in_count (λ blocks. IsGrown mid.file job.text columns olds blocks image) some.0 (some.2 image it))));
+            (λ _ image it. inr (subst (λ (file : List ℕ). IsGrown file job.text columns olds (run_blocks job r.run) image) same
+            (subst (λ (bs : List (List (List Value))). IsGrown mid.file job.text columns olds bs image) blocks
+            (in_count (λ bs. IsGrown mid.file job.text columns olds bs image) some.0 (some.2 image it)))));
       }))
       (ran.moments olds is_at)
 

@@ -1,5 +1,8 @@
 pub mod Standing
+pub mod Missing
 pub mod Sources
+pub mod Trimmed
+pub mod Asked
 pub mod Found
 pub mod Safe
 pub mod Starts

@@ -7,16 +7,23 @@ use Rattle.commit_disk.specs.Table.{Stored, IsNotMade}
 use Rattle.commit_disk.specs.Crashes.{IsEmptyOrNotMade}
 use Rattle.table_write.specs.Rows.{HoldsRows, HoldsFirst, HoldsEnded}
 use Rattle.table_write.specs.Adds.{IsFront, StopsBetween}
-use Rattle.load_runner.specs.Standing.{Begins, Stands}
+use Rattle.load_runner.specs.Standing.{Begins, Stands, IsAll}
 
 -- under this text the image holds rows that begin with these and stand for this meaning, ended or not
-pub record IsSafe (text : List ℕ) (columns : List Column) (whole acknowledged : List (List Value))
+pub record IsSafe (text : List ℕ) (columns : List Column) (fixed : Bool) (whole acknowledged : List (List Value))
     (image : List ℕ) : Type 0 where
   pub rows : List (List Value)
   pub ended : Bool
   pub holds : HoldsRows image text columns rows ended
   pub begins : Begins acknowledged rows
-  pub stands : Stands whole rows ended
+  pub stands : Stands fixed whole rows ended
+
+-- under this text the image is an ended table, whose rows are all of this meaning
+pub record HoldsAll (text : List ℕ) (columns : List Column) (fixed : Bool) (whole : List (List Value))
+    (image : List ℕ) : Type 0 where
+  pub rows : List (List Value)
+  pub holds : HoldsRows image text columns rows true
+  pub all : IsAll fixed whole rows
 
 -- from the one state to the other, rows that every image of a moment holds first, every image of each
 -- later one holds first, and where every image of a moment is ended, so is every image of each later one

@@ -1,5 +1,5 @@
--- What a flow means over the files of a folder.
-use Rattle.std.specs.Prelude.{ℕ, ◌==◌, List, [], ◌∷◌, length, map, find, Option, Some, None, option_map, option_and_then}
+-- The contents of the files of a folder, and what a flow means over them.
+use Rattle.std.specs.Prelude.{◌≡◌, ℕ, ◌==◌, List, [], ◌∷◌, length, map, find, Option, Some, None, option_map, option_and_then}
 use Rattle.std.specs.List.{range_with_len}
 use Rattle.tuple_schema.specs.declared.schema.Column.{Column}
 use Rattle.list_algebra.specs.Bags.{Tuple}
@@ -9,8 +9,9 @@ use Rattle.extractors.specs.Content.{csv_content}
 use Rattle.flow_types.specs.declared.node.Kind.{Kind}
 use Rattle.flow_types.specs.declared.node.Kind.TheVariants as kind
 use Rattle.flow_types.specs.declared.node.Node.{Node}
-use Rattle.flow_types.specs.Flows.{number_of, root_in}
-use Rattle.kind_laws.specs.Wholes.{by_number, whole_of}
+use Rattle.flow_types.specs.Flows.{TypedFlow, number_of, root_in}
+use Rattle.kind_laws.specs.Wholes.{Lists, by_number, whole_of}
+use Rattle.kind_laws.specs.Promises.{KeepsPromises, IsListing}
 
 -- the content of what is found of a file, where it has one
 abbrev pub content_in : List Column → Found → Option (List Tuple)
@@ -48,9 +49,18 @@ abbrev pub contents_in : List Node → Files → Option (List (List Tuple))
 contents_in nodes files = all_of (map (λ number. content_of files (numbered nodes number))
     (range_with_len 0 (length nodes)))
 
--- the meaning of a flow over these files, where its sources have contents
-abbrev pub whole_in : List Node → Files → Option (List Tuple)
-whole_in nodes files = option_and_then (λ contents. whole_of nodes (by_number contents)) (contents_in nodes files)
+-- the files keep a truth: their contents list it, and it keeps what the sources promise
+pub record KeepsTruth (files : Files) (nodes : List Node) (truth : Lists) : Type 0 where
+  pub contents : List (List Tuple)
+  pub are : contents_in nodes files ≡ Some contents
+  pub listed : IsListing nodes truth (by_number contents)
+  pub promises : KeepsPromises nodes truth
+
+-- these rows are what the flow means over the files: they keep a truth, of which it makes these
+pub record IsMeaning (flow : TypedFlow) (files : Files) (whole : List Tuple) : Type 0 where
+  pub truth : Lists
+  pub kept : KeepsTruth files flow.nodes truth
+  pub makes : whole_of flow.nodes truth ≡ Some whole
 
 -- the columns of the last node, whose rows the table takes
 abbrev pub columns_of_last : Option Node → List Column

@@ -1,14 +1,20 @@
--- Rows that stand in a table for the meaning of a workflow, whose order is fixed.
+-- Rows that stand in a table for the meaning of a workflow.
 use Rattle.std.specs.Prelude.{◌≡◌, List, ◌++◌, Bool, IsTrue}
-use Rattle.tuple_schema.specs.declared.value.Value.{Value}
+use Rattle.list_algebra.specs.Bags.{Tuple, IsPartOf, SameBag}
 
 -- the list begins with these rows, in their order
-pub record Begins (rows whole : List (List Value)) : Type 0 where
-  pub others : List (List Value)
+pub record Begins (rows whole : List Tuple) : Type 0 where
+  pub others : List Tuple
   pub whole_is : whole ≡ rows ++ others
 
--- the rows are a sound state of a table for this meaning: it begins with them, and where the table is ended they are
--- all of it
-pub record Stands (whole rows : List (List Value)) (ended : Bool) : Type 0 where
-  pub begins : Begins rows whole
-  pub all : IsTrue ended → rows ≡ whole
+-- the rows are a sound state of a table for this meaning, whose order is fixed or not: they are a part of it, its
+-- first ones where the order is fixed, and all of it where the table is ended
+pub record Stands (fixed : Bool) (whole rows : List Tuple) (ended : Bool) : Type 0 where
+  pub part : IsPartOf rows whole
+  pub begins : IsTrue fixed → Begins rows whole
+  pub all : IsTrue ended → SameBag rows whole
+
+-- the rows are all of the meaning, each as often as there, and in its order where that is fixed
+pub record IsAll (fixed : Bool) (whole rows : List Tuple) : Type 0 where
+  pub bag : SameBag rows whole
+  pub list : IsTrue fixed → rows ≡ whole

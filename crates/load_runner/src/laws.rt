@@ -1,33 +1,63 @@
 // What holds of any number of loads.
-ghost use Rattle.std.specs.Prelude.{◌≡◌, ◌≤◌, ◌+◌, ℕ, List, length, Bool, false, Ok};
-ghost use Rattle.tuple_schema.specs.declared.value.Value.{Value};
+ghost use Rattle.std.specs.Prelude.{◌≡◌, ◌≤◌, ◌+◌, ℕ, List, length, Bool, IsTrue, Ok, Some};
+ghost use Rattle.list_algebra.specs.Bags.{Tuple};
+ghost use Rattle.list_algebra.specs.Trees.{Tree};
+ghost use Rattle.outside.specs.Words.{Files};
 ghost use Rattle.tuple_schema.specs.declared.schema.Column.{Column};
 ghost use Rattle.commit_disk.specs.Table.{Stored};
+ghost use Rattle.flow_types.specs.Flows.{TypedFlow, has_fixed_root};
+ghost use Rattle.flow_types.specs.Linked.{IsFlow};
+ghost use Rattle.kind_laws.specs.Runs.{Yield, at_root};
+ghost use Rattle.kind_laws.specs.Wholes.{Lists, whole_of};
 ghost use Rattle.table_read.specs.Rows.{table_rows};
+ghost use Rattle.table_write.specs.Cut.{cut};
 ghost use Rattle.table_write.specs.Rows.{HoldsRows};
-ghost use Rattle.load_runner.specs.Jobs.{missing_blocks};
+ghost use Rattle.load_runner.specs.Sources.{KeepsTruth};
+ghost use Rattle.load_runner.specs.Trimmed.{IsRest, Resumes};
+ghost use Rattle.load_runner.specs.Missing.{IsAllMissing};
 ghost use Rattle.load_runner.specs.Safe.{IsGrown};
+ghost use Rattle.load_runner.specs.Standing.{Stands, IsAll};
 ghost use Rattle.load_runner.specs.Histories.{Standing, nothing, IsStep, IsHistory, AllStandFrom};
 
 use commit_disk::{holds_once, verdicts_agree};
+use flow_types::tree_laws;
+use list_algebra::bag_laws;
 use table_write::{blocks_laws, cut_laws};
 
-/// After any number of loads, each stopped at any moment or not: the table's rows stand for the meaning, no load
-/// takes rows back, and an ended table holds all of them. It does nothing: its contract is the laws.
+/// After any number of loads, each stopped at any moment or not, each over files that keep one truth: the table's rows
+/// stand for the meaning, no load takes rows back, and an ended table holds all of them. It does nothing: its contract
+/// is the laws. Each is of flows of which the order is fixed, as it is of all that are built at this stage.
 pub fn any_loads()
-    // Each image that a load leaves, which holds the blocks of the file before it and the first of those that are
-    // missing, is one step of such a history away from the rows that were committed.
-    ensures step { (file text image : List ℕ) (columns : List Column) (olds : List Stored) (batch : ℕ)
-        (whole committed rows : List (List Value)) (ended : Bool) → 1 ≤ batch → batch ≤ 4096
-        → table_rows columns (16 + length text) olds ≡ Ok committed
-        → IsGrown file text columns olds (missing_blocks batch (length committed) whole) image
+    // A trimmed run over files that keep a truth brings a rest.
+    ensures rest { (flow : TypedFlow) (files : Files) (truth : Lists) (committed : List Tuple) (run : Tree Yield)
+        → KeepsTruth files flow.nodes truth → Resumes flow (Some files) committed run
+        → IsRest flow truth committed (at_root run) }
+    // Any rest is just what is missing.
+    ensures missing { (flow : TypedFlow) → IsFlow flow → IsTrue (has_fixed_root flow.nodes)
+        → (truth : Lists) (whole committed rest : List Tuple) → whole_of flow.nodes truth ≡ Some whole
+        → Stands (has_fixed_root flow.nodes) whole committed false → IsRest flow truth committed rest
+        → IsAllMissing (has_fixed_root flow.nodes) whole committed rest }
+    // Each image that a load leaves, which holds the blocks of the file before it and the first blocks of a rest, is
+    // one step of such a history away from the rows that were committed.
+    ensures step { (flow : TypedFlow) (truth : Lists) (file text image : List ℕ) (columns : List Column)
+        (olds : List Stored) (batch : ℕ) (committed rest rows : List Tuple) (ended : Bool) → 1 ≤ batch → batch ≤ 4096
+        → table_rows columns (16 + length text) olds ≡ Ok committed → IsRest flow truth committed rest
+        → IsGrown file text columns olds (cut batch rest) image
         → HoldsRows image text columns rows ended
-        → IsStep whole (record { rows = committed; ended = false }) (record { rows = rows; ended = ended }) }
-    ensures stand { (whole : List (List Value)) (standings : List Standing) → IsHistory whole standings
-        → AllStandFrom whole nothing standings }
+        → IsStep flow truth (record { rows = committed; ended = false }) (record { rows = rows; ended = ended }) }
+    // What stands after each load of a history.
+    ensures stand { (flow : TypedFlow) → IsFlow flow → IsTrue (has_fixed_root flow.nodes)
+        → (truth : Lists) (whole : List Tuple) → whole_of flow.nodes truth ≡ Some whole
+        → (standings : List Standing) → IsHistory flow truth standings
+        → AllStandFrom (has_fixed_root flow.nodes) whole nothing standings }
+    // Rows that stand in an ended table are all of the meaning.
+    ensures ended { (fixed : Bool) (whole rows : List Tuple) → Stands fixed whole rows true
+        → IsAll fixed whole rows }
 {
     holds_once();
     verdicts_agree();
     blocks_laws();
     cut_laws();
+    bag_laws();
+    tree_laws();
 }

@@ -1,6 +1,6 @@
 // What a load reports.
 ghost use Rattle.std.specs.Prelude.{◌≡◌, [], ◌∷◌, ◌++◌, OnOk, OnErr, IfOk};
-ghost use Rattle.load_runner.specs.Reports.{report_of, ended_report, skipped};
+ghost use Rattle.load_runner.specs.Reports.{skip_report, ended_report, skip_counts};
 
 use flow_types::NodeId;
 use std::alloc::Global;
@@ -76,20 +76,20 @@ pub fn ended_report(alloc: Global, before: u64) -> Report
 }
 
 /// The report of a load that skips the rows that stand, of as many as there are in all.
-pub fn report_of(alloc: Global, root: NodeId, before: u64, whole: u64) -> Result<Report, Memory>
-    ensures { IfOk result (λ r. r ≡ report_of root before whole) }
+pub fn skip_report(alloc: Global, root: NodeId, before: u64, whole: u64) -> Result<Report, Memory>
+    ensures { IfOk result (λ r. r ≡ skip_report root before whole) }
 {
     let added = whole.saturating_sub(before);
     Ok(Report {
         committed_before: before,
         added,
-        edges: skipped(alloc, root, before, whole)?,
+        edges: skip_counts(alloc, root, before, whole)?,
     })
 }
 
 // What was done at the root's edge.
-fn skipped(alloc: Global, root: NodeId, before: u64, whole: u64) -> Result<ReportEdges, Memory>
-    ensures { IfOk result (λ e. e ≡ skipped root before whole) }
+fn skip_counts(alloc: Global, root: NodeId, before: u64, whole: u64) -> Result<ReportEdges, Memory>
+    ensures { IfOk result (λ e. e ≡ skip_counts root before whole) }
 {
     let mut edges = ReportEdges::new(alloc);
     if before > 0 {

@@ -1,5 +1,5 @@
 // Going on with a load, once the table was read.
-ghost use Rattle.std.specs.Prelude.{◌≡◌, ◌≢◌, ◌≤◌, ◌⊎◌, ℕ, List, IsTrue, Err, None, Some, All, IfOk, OnOk, length, take, drop, true, false};
+ghost use Rattle.std.specs.Prelude.{◌≡◌, ◌≢◌, ◌≤◌, ◌+◌, ◌⊎◌, ℕ, List, IsTrue, Err, None, Some, All, IfOk, OnOk, length, take, drop, true, false};
 ghost use Rattle.outside.specs.Words.{Rose, Each, Files, Consults, Elapses, IsSettled, LeftBetween, OnlyReads};
 ghost use Rattle.tuple_schema.specs.Stops.{IfFault};
 ghost use Rattle.tuple_schema.specs.declared.value.Value.{Value};
@@ -11,15 +11,16 @@ ghost use Rattle.row_codec.specs.Decoding.{IsRowOf};
 ghost use Rattle.table_write.specs.Cut.{together};
 ghost use Rattle.table_write.specs.Adds.{with_blocks, AllHaveRoom, IsFullBehind};
 ghost use Rattle.load_runner.specs.declared.fault.LoadFault.TheVariants as fault;
-ghost use Rattle.load_runner.specs.Sources.{whole_in, root_columns};
+ghost use Rattle.load_runner.specs.Sources.{contents_in, root_columns};
+ghost use Rattle.load_runner.specs.Asked.{asked_bytes};
 ghost use Rattle.load_runner.specs.Safe.{IsGrown, IsStopped};
 ghost use Rattle.load_runner.specs.Starts.{IsAt, is_ended, count_of, gate_of};
-ghost use Rattle.load_runner.specs.Jobs.{IsMeaning, missing_blocks};
+ghost use Rattle.load_runner.specs.Jobs.{IsMade, missing_blocks};
 ghost use Rattle.load_runner.specs.Resuming.{AllAdded, IsUnwritten, IsCaused};
 
 use crate::fault::LoadFault;
 use crate::finish::finish;
-use crate::report::{Report, report_of};
+use crate::report::{Report, skip_report};
 use crate::sources::whole_rows;
 use commit_disk::{Attached, MAX_FLOW_BYTES, MAX_ROWS};
 use flow_types::Flow;
@@ -49,12 +50,12 @@ pub fn resume<D: Depot, K: Disk>(
         × IsAt found (K.state disk.old).file text.now olds }
 
     ensures done { IfOk result (λ report. IsTrue (K.state disk.old).honest
-        → AllAdded flow.now.nodes (D.state depot.old).files text.now batch found (K.state disk.old).file
+        → AllAdded flow.now (D.state depot.old).files text.now batch found (K.state disk.old).file
         (K.state disk.new).file report) }
     ensures none { result ≡ Err (stop.Fault fault.NotBuilt) → (files : Files) → (D.state depot.old).files ≡ Some files
-        → whole_in flow.now.nodes files ≡ None }
+        → contents_in flow.now.nodes files ≡ None }
     ensures full { result ≡ Err (stop.Fault fault.Full) → (whole : List (List Value))
-        × IsMeaning flow.now.nodes (D.state depot.old).files whole
+        × IsMade flow.now (D.state depot.old).files whole
         × ((count : ℕ) × IsFullBehind (gate_of found text.now) (missing_blocks batch (count_of found) whole) count
         × All (IsRowOf (root_columns flow.now.nodes))
         (together (take count (missing_blocks batch (count_of found) whole)))
@@ -75,7 +76,7 @@ pub fn resume<D: Depot, K: Disk>(
     ensures any_moment { IsTrue (K.state disk.old).honest → IsSettled (K.state disk.old)
         → (olds : List Stored) → IsAt found (K.state disk.old).file text.now olds
         → OnlyReads (K.state disk.old) (K.state disk.new) ⊎ ((whole : List (List Value))
-        × IsMeaning flow.now.nodes (D.state depot.old).files whole
+        × IsMade flow.now (D.state depot.old).files whole
         × Each (LeftBetween (K.state disk.old) (K.state disk.new))
         (IsGrown (K.state disk.old).file text.now (root_columns flow.now.nodes) olds
         (missing_blocks batch (count_of found) whole))) }
@@ -85,10 +86,12 @@ pub fn resume<D: Depot, K: Disk>(
     ensures stops { result ≡ Err (stop.Fault fault.Disk) → IsTrue (K.state disk.old).honest
         → IsSettled (K.state disk.old)
         → (olds : List Stored) → IsAt found (K.state disk.old).file text.now olds
-        → (whole : List (List Value)) × IsMeaning flow.now.nodes (D.state depot.old).files whole
+        → (whole : List (List Value)) × IsMade flow.now (D.state depot.old).files whole
         × IsStopped (K.state disk.old).file text.now olds (missing_blocks batch (count_of found) whole)
         (K.state disk.new).may_leave }
     ensures consults { Consults (D.state depot.old) (D.state depot.new) }
+    ensures served { (files : Files) → (D.state depot.old).files ≡ Some files
+        → (D.state depot.new).served ≤ (D.state depot.old).served + asked_bytes flow.now.nodes files }
     ensures elapses { Elapses (K.state disk.old) (K.state disk.new) }
 {
     let root = flow.root_node();
@@ -96,7 +99,7 @@ pub fn resume<D: Depot, K: Disk>(
     let rows = whole_rows(alloc, flow, depot)?;
     let before = count_of(&found);
     // The report comes first, so that no memory is wanted once the table is ended.
-    let report = report_of(alloc, root.id, before, rows.len() as u64)?;
+    let report = skip_report(alloc, root.id, before, rows.len() as u64)?;
     let missing = behind(rows.rows(), before);
     match finish(
         alloc,

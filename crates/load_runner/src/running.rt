@@ -7,7 +7,8 @@ use crate::fault::LoadFault;
 use crate::report::{Report, ended_report};
 use crate::resume::{count_of, is_ended, resume};
 use commit_disk::{MAX_FLOW_BYTES, MAX_ROWS, holds_once, verdicts_agree};
-use flow_types::Flow;
+use flow_types::{Flow, tree_laws};
+use list_algebra::bag_laws;
 use outside::{Depot, Disk};
 use std::alloc::Global;
 use table_write::{blocks_laws, cut_laws, still_laws};
@@ -28,7 +29,7 @@ pub fn load<D: Depot, K: Disk>(
     requires short { length text.now ≤ MAX_FLOW_BYTES }
     requires some { 1 ≤ batch }
     requires few { batch ≤ MAX_ROWS }
-    ensures promise { Loads (record { nodes = flow.now.nodes; text = text.now; batch = batch })
+    ensures promise { Loads (record { flow = flow.now; text = text.now; batch = batch })
         (D.state depot.old) (D.state depot.new) (K.state disk.old) (K.state disk.new) result }
 {
     holds_once();
@@ -36,6 +37,8 @@ pub fn load<D: Depot, K: Disk>(
     cut_laws();
     blocks_laws();
     still_laws();
+    bag_laws();
+    tree_laws();
     let root = flow.root_node();
     let found = match begin(alloc, disk, text, &root.schema) {
         Ok(found) => found,

@@ -1,7 +1,7 @@
 // The rows that a flow means, from the files of its sources.
-ghost use Rattle.std.specs.Prelude.{◌≡◌, ◌<◌, ℕ, Some, None, All, IfOk, IfSome, Err, option_map, option_copied, find};
+ghost use Rattle.std.specs.Prelude.{◌≡◌, ◌<◌, ◌≤◌, ◌+◌, ℕ, Some, None, All, IfOk, IfSome, Err, option_map, option_copied, find};
 ghost use Rattle.outside.specs.Words.{Rose, Files, file_at, Consults};
-ghost use Rattle.outside.specs.Whole.{found_in};
+ghost use Rattle.outside.specs.Whole.{found_in, size_of};
 ghost use Rattle.tuple_schema.specs.Schemas.{Fits};
 ghost use Rattle.tuple_schema.specs.Stops.{IfFault};
 ghost use Rattle.tuple_schema.specs.declared.memory.Stop.TheVariants as stop;
@@ -10,7 +10,9 @@ ghost use Rattle.flow_types.specs.Flows.{root_in};
 ghost use Rattle.kind_laws.specs.Wholes.{by_number};
 ghost use Rattle.kind_laws.specs.Laws.{OwnFit, SourcesFit};
 ghost use Rattle.load_runner.specs.declared.fault.LoadFault.TheVariants as fault;
-ghost use Rattle.load_runner.specs.Sources.{content_in, content_at, content_of, numbered, contents_in, whole_in};
+ghost use Rattle.load_runner.specs.Sources.{content_in, content_at, content_of, numbered, contents_in};
+ghost use Rattle.load_runner.specs.Asked.{asked_of, asked_bytes};
+ghost use Rattle.load_runner.specs.Jobs.{IsMade};
 ghost use Rattle.load_runner.specs.Faults.{IsSourceFault};
 
 use crate::fault::LoadFault;
@@ -30,14 +32,15 @@ pub fn whole_rows<D: Depot>(
     flow: &Flow,
     depot: &mut D,
 ) -> Result<Tuples, Stop<LoadFault>>
-    ensures whole { IfOk result (λ rows. (files : Files) → (D.state depot.old).files ≡ Some files
-        → whole_in flow.now.nodes files ≡ Some rows) }
+    ensures made { IfOk result (λ rows. IsMade flow.now (D.state depot.old).files rows) }
     ensures none { result ≡ Err (stop.Fault fault.NotBuilt) → (files : Files) → (D.state depot.old).files ≡ Some files
-        → whole_in flow.now.nodes files ≡ None }
+        → contents_in flow.now.nodes files ≡ None }
     ensures fit { IfOk result (λ rows. IfSome (root_in flow.now.nodes)
         (λ root. All (λ row. Fits root.schema row) rows)) }
     ensures causes { IfFault result (IsSourceFault (Rose (D.state depot.old).faults (D.state depot.new).faults)) }
     ensures consults { Consults (D.state depot.old) (D.state depot.new) }
+    ensures served { (files : Files) → (D.state depot.old).files ≡ Some files
+        → (D.state depot.new).served ≤ (D.state depot.old).served + asked_bytes flow.now.nodes files }
 {
     let Some(sources) = source_lists(alloc, flow, depot)? else {
         return Err(Stop::Fault(LoadFault::NotBuilt));
@@ -60,6 +63,8 @@ fn source_lists<D: Depot>(
     ensures causes { IfFault result (λ f. (f ≡ fault.Depot) × Rose (D.state depot.old).faults
         (D.state depot.new).faults) }
     ensures consults { Consults (D.state depot.old) (D.state depot.new) }
+    ensures served { (files : Files) → (D.state depot.old).files ≡ Some files
+        → (D.state depot.new).served ≤ (D.state depot.old).served + asked_bytes flow.now.nodes files }
 {
     tree_laws();
     let nodes = flow.nodes();
@@ -94,6 +99,8 @@ fn source_rows<D: Depot>(
     ensures causes { IfFault result (λ f. (f ≡ fault.Depot) × Rose (D.state depot.old).faults
         (D.state depot.new).faults) }
     ensures consults { Consults (D.state depot.old) (D.state depot.new) }
+    ensures served { (files : Files) → (D.state depot.old).files ≡ Some files
+        → (D.state depot.new).served ≤ (D.state depot.old).served + asked_of files (option_copied node.entry) }
 {
     let Some(node) = node else {
         return Ok(Some(Tuples::new(alloc)));
@@ -118,6 +125,8 @@ fn read_rows<D: Depot>(
     ensures causes { IfFault result (λ f. (f ≡ fault.Depot) × Rose (D.state depot.old).faults
         (D.state depot.new).faults) }
     ensures consults { Consults (D.state depot.old) (D.state depot.new) }
+    ensures served { (files : Files) → (D.state depot.old).files ≡ Some files
+        → (D.state depot.new).served ≤ (D.state depot.old).served + size_of (file_at files file.now) }
 {
     match read_whole(alloc, depot, file, MAX_SOURCE) {
         Ok(WholeFile::Read(bytes)) => Ok(read_content(alloc, &bytes, schema)?),

@@ -13,10 +13,11 @@ use Rattle.load_runner.specs.declared.report.Report.{Report}
 use Rattle.load_runner.specs.Found.{State, rows, IsFound}
 use Rattle.load_runner.specs.Jobs as jobs
 use Rattle.load_runner.specs.Jobs.{columns_of}
-use Rattle.load_runner.specs.Loads.{Loads, Does, Stays, AddsTo, Leaves, IsComplete}
-use Rattle.load_runner.specs.Safe.{IsSafe}
-use Rattle.load_runner.specs.Sources.{whole_in}
+use Rattle.load_runner.specs.Loads.{Loads}
+use Rattle.load_runner.specs.Safe.{IsSafe, HoldsAll}
+use Rattle.load_runner.specs.Sources.{IsMeaning}
 use Rattle.load_runner.specs.Standing.{Begins, Stands}
+use Rattle.flow_types.specs.Flows.{has_fixed_root}
 use Rattle.whload.specs.declared.reason.Reason.{Reason}
 use Rattle.whload.specs.Commands.{Asked, Job, loads, asked_in}
 use Rattle.whload.specs.Promises as promises
@@ -51,8 +52,8 @@ load_of words files job old new answer ends told asks =
 
 -- images that stand for the meaning stay so
 pub stays_safe : (words : List (List ℕ)) (files : Files) (job : jobs.Job) (old new : Devices) (answer : Option Reason) → Ends words old new answer → old.depot.files ≡ Some files → AsksFor words files (loads job)
-    → (whole : List (List Value)) → whole_in job.nodes files ≡ Some whole → Each old.disk.may_leave (IsSafe job.text (columns_of job) whole [])
-    → AtEachMoment old.disk new.disk (IsSafe job.text (columns_of job) whole [])
+    → (whole : List (List Value)) → IsMeaning job.flow files whole → Each old.disk.may_leave (IsSafe job.text (columns_of job) (has_fixed_root job.flow.nodes) whole [])
+    → AtEachMoment old.disk new.disk (IsSafe job.text (columns_of job) (has_fixed_root job.flow.nodes) whole [])
 stays_safe words files job old new answer ends told asks whole means each =
     let did = load_of words files job old new answer ends told asks in
     ⊎_elim
@@ -60,35 +61,17 @@ stays_safe words files job old new answer ends told asks whole means each =
     (λ none is image left. each image (none.untouched.disk.nothing_new.each is image left))
     did.2
 
--- all of the meaning that is not committed
-all_rows : (committed whole : List (List Value)) → Begins committed whole → committed ++ drop (length committed) whole ≡ whole
-all_rows committed whole begins =
-    ap (λ (rs : List (List Value)). committed ++ drop (length committed) rs) begins.whole_is ∙ ap (λ (rs : List (List Value)). committed ++ rs) (drop-append_seam committed begins.others) ∙ sym begins.whole_is
-
--- a load that is complete over a table that stands for the meaning leaves all of it
-module _ (job : jobs.Job) (depot still : DepotState) (disk now : DiskState) (files : Files) (told : depot.files ≡ Some files) (whole : List (List Value)) (means : whole_in job.nodes files ≡ Some whole) where
-  completed : (report : Report) (committed : List (List Value)) (ended : Bool) → IsTrue disk.honest → HoldsRows disk.file job.text (columns_of job) committed ended → Stands whole committed ended
-      → Does job depot still disk now (Ok report) (rows committed ended) → HoldsRows now.file job.text (columns_of job) whole true
-  completed report committed true is holds stands stays =
-      let same : now.file ≡ disk.file = ⊎_elim (λ keeps. keeps.file is) (λ syncs. syncs.file is) stays.spares.barrier in
-      subst (λ (rs : List (List Value)). HoldsRows now.file job.text (columns_of job) rs true) (stands.all refl)
-      (subst (λ (file : List ℕ). HoldsRows file job.text (columns_of job) committed true) (sym same) holds)
-  completed report committed false is holds stands adds =
-      let complete : IsComplete job depot.files committed adds.olds adds.gate now report = adds.leaves in
-      let same : complete.whole ≡ whole = let e : Some complete.whole ≡ Some whole = sym (complete.meaning files told) ∙ means in cc in
-      subst (λ (rs : List (List Value)). HoldsRows now.file job.text (columns_of job) rs true) (all_rows committed whole stands.begins)
-      (subst (λ (w : List (List Value)). HoldsRows now.file job.text (columns_of job) (committed ++ drop (length committed) w) true) same complete.rows)
-
-  -- where a load that is told as done is complete
-  done : (ended : jobs.Answer) (out then : SinkState) → IsTrue disk.honest → IsSafe job.text (columns_of job) whole [] disk.file → Loads job depot still disk now ended → promises.Tells job.nodes ended out then None
-      → HoldsRows now.file job.text (columns_of job) whole true
-  done (Ok report) out then is safe load tells = completed report safe.rows safe.ended is safe.holds safe.stands (load.does is (rows safe.rows safe.ended) safe.holds)
-  done (Err stop) out then is safe load tells = absurd (let e = tells.0 in cc)
+-- a load that is told as done over a table that stands for the meaning leaves all of it
+done : (job : jobs.Job) (depot still : DepotState) (disk now : DiskState) (files : Files) → depot.files ≡ Some files → (whole : List (List Value)) → IsMeaning job.flow files whole
+    → (ended : jobs.Answer) (out then : SinkState) → IsTrue disk.honest → IsSafe job.text (columns_of job) (has_fixed_root job.flow.nodes) whole [] disk.file
+    → Loads job depot still disk now ended → promises.Tells job.flow.nodes ended out then None → HoldsAll job.text (columns_of job) (has_fixed_root job.flow.nodes) whole now.file
+done job depot still disk now files told whole means (Ok report) out then is safe load tells = load.completes files told whole means is safe now.file (now.reads_image (load.elapses.honest ∙ is))
+done job depot still disk now files told whole means (Err stop) out then is safe load tells = absurd (let e = tells.0 in cc)
 
 -- a run that is done over a table that stands for the meaning leaves all of it
 pub done_is_whole : (words : List (List ℕ)) (files : Files) (job : jobs.Job) (old new : Devices) → Ends words old new None → old.depot.files ≡ Some files → AsksFor words files (loads job)
-    → (whole : List (List Value)) → whole_in job.nodes files ≡ Some whole → IsTrue old.disk.honest → IsSafe job.text (columns_of job) whole [] old.disk.file
-    → HoldsRows new.disk.file job.text (columns_of job) whole true
+    → (whole : List (List Value)) → IsMeaning job.flow files whole → IsTrue old.disk.honest → IsSafe job.text (columns_of job) (has_fixed_root job.flow.nodes) whole [] old.disk.file
+    → HoldsAll job.text (columns_of job) (has_fixed_root job.flow.nodes) whole new.disk.file
 done_is_whole words files job old new ends told asks whole means is safe =
     let did = load_of words files job old new None ends told asks in
     let none : did.0 ≡ None = told_none did.0 did.1 in
@@ -107,7 +90,7 @@ done_is_whole words files job old new ends told asks whole means is safe =
     not_done old new not_begun = ⊎_elim (λ e. cc) (λ e. let f = e.0 in cc) not_begun.outside
 
 -- a disk that nothing was written to stands for any meaning
-pub fresh : (history : DiskHistory) → history ≡ record { first = []; events = [] } → (job : jobs.Job) (whole : List (List Value)) → Each (images_of history) (IsSafe job.text (columns_of job) whole [])
+pub fresh : (history : DiskHistory) → history ≡ record { first = []; events = [] } → (job : jobs.Job) (whole : List (List Value)) → Each (images_of history) (IsSafe job.text (columns_of job) (has_fixed_root job.flow.nodes) whole [])
 fresh history is job whole image left =
     let empty : image ≡ [] = subst (λ (h : DiskHistory). images_of h image) is left in
     record {
@@ -115,5 +98,5 @@ fresh history is job whole image left =
       ended = false;
       holds = inr (inl (omega (arith, ap length empty)), refl, refl);
       begins = record { others = []; whole_is = refl };
-      stands = record { begins = record { others = whole; whole_is = refl }; all = λ ended. cc };
+      stands = record { part = λ tuple. omega arith; begins = λ _. record { others = whole; whole_is = refl }; all = λ ended. cc };
     }

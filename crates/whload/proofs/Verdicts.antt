@@ -27,6 +27,6 @@ pub asked_refused : (command : Asked) (files : Files) (e : Reason) → flow_of_f
 unfolding asked_over
 asked_refused command files e is = rw is refl
 
-pub asked_read : (command : Asked) (files : Files) (flow : FlowText) → flow_of_files files ≡ Ok flow → asked_over command files ≡ Ok (job_for command flow.text flow.flow.nodes)
+pub asked_read : (command : Asked) (files : Files) (flow : FlowText) → flow_of_files files ≡ Ok flow → asked_over command files ≡ Ok (job_for command flow.text flow.flow)
 unfolding asked_over
 asked_read command files flow is = rw is refl

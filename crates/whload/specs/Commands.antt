@@ -1,6 +1,6 @@
 -- The commands, as the words name them, and what each has to do.
 use Rattle.std.specs.Prelude.{ℕ, ◌≤◌, List, Option, Some, None}
-use Rattle.flow_types.specs.declared.node.Node.{Node}
+use Rattle.flow_types.specs.Flows.{TypedFlow}
 use Rattle.load_runner.specs.Jobs as jobs
 use Rattle.whload.specs.Words.{batch_in}
 
@@ -25,5 +25,5 @@ abbrev pub asked_in : List (List ℕ) → Option Asked
 asked_in words = load_of (batch_in words)
 
 -- what the command has to do with this flow
-abbrev pub job_for : Asked → List ℕ → List Node → Job
-job_for (load batch) text nodes = loads (record { nodes = nodes; text = text; batch = batch })
+abbrev pub job_for : Asked → List ℕ → TypedFlow → Job
+job_for (load batch) text flow = loads (record { flow = flow; text = text; batch = batch })

@@ -42,7 +42,7 @@ Tells nodes (Err stop) out now answer = (answer ≡ Some (reason_of stop)) × (n
 pub record LoadsAndTells (job : jobs.Job) (old new : Devices) (answer : Option Reason) : Type 0 where
   pub ended : jobs.Answer
   pub loads : Loads job old.depot new.depot old.disk new.disk ended
-  pub tells : Tells job.nodes ended old.out new.out answer
+  pub tells : Tells job.flow.nodes ended old.out new.out answer
   pub output : old.out.faults ≤ new.out.faults
 
 -- what the program does of a job: a line for each command

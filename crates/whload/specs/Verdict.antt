@@ -71,7 +71,7 @@ flow_of_files files = do
 unfoldable pub asked_over : Asked → Files → Result Job Reason
 asked_over command files = do
   found ← flow_of_files files
-  Ok (job_for command found.text found.flow.nodes)
+  Ok (job_for command found.text found.flow)
 
 -- the words ask for this over these files
 pub record AsksFor (words : List (List ℕ)) (files : Files) (job : Job) : Type 0 where

@@ -46,7 +46,7 @@ fn load_and_tell<D: Depot, K: Disk, S: Sink>(
 ) -> Result<(), Reason>
     requires short { length found.now.text.items ≤ 65536 }
     requires within { IsWithin (load batch) }
-    ensures { LoadsAndTells (record { nodes = found.now.flow.nodes; text = found.now.text.items; batch = batch })
+    ensures { LoadsAndTells (record { flow = found.now.flow; text = found.now.text.items; batch = batch })
         (devices (D.state depot.old) (K.state disk.old) (S.state out.old))
         (devices (D.state depot.new) (K.state disk.new) (S.state out.new)) (answer_of result) }
 {

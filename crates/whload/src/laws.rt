@@ -3,9 +3,10 @@ ghost use Rattle.std.specs.Prelude.{◌≡◌, ℕ, List, true, None, Some, IfOk
 ghost use Rattle.outside.specs.Words.{Files};
 ghost use Rattle.outside.specs.MemoryDisk.{file_of};
 ghost use Rattle.tuple_schema.specs.declared.value.Value.{Value};
-ghost use Rattle.table_write.specs.Rows.{HoldsRows};
+ghost use Rattle.flow_types.specs.Flows.{has_fixed_root};
 ghost use Rattle.load_runner.specs.Jobs.{Job, columns_of};
-ghost use Rattle.load_runner.specs.Sources.{whole_in};
+ghost use Rattle.load_runner.specs.Safe.{HoldsAll};
+ghost use Rattle.load_runner.specs.Sources.{IsMeaning};
 ghost use Rattle.whload.specs.Commands.{loads};
 ghost use Rattle.whload.specs.Verdict.{AsksFor};
 
@@ -18,8 +19,8 @@ use tuple_schema::Memory;
 /// then again, over what the crash left.
 ///
 /// It shows that the premises of `run` can be met, and that what it promises is enough for the next run: where the
-/// words ask for a load and the second one is done, the table holds what a single load that nobody stopped would have
-/// left, wherever the first one was stopped.
+/// words ask for a load and the second one is done, the table is ended and holds all of what the flow means over the
+/// files, and nothing else, wherever the first one was stopped.
 pub fn run_again_after_a_crash<D: Depot, S: Sink, N: Sink>(
     alloc: Global,
     words: &[String],
@@ -32,8 +33,8 @@ pub fn run_again_after_a_crash<D: Depot, S: Sink, N: Sink>(
     ensures whole { IfOk result (λ left. left.0.reason ≡ None
         → (files : Files) → (D.state depot.old).files ≡ Some files
         → (job : Job) → AsksFor (map string_bytes words.now) files (loads job)
-        → (whole : List (List Value)) → whole_in job.nodes files ≡ Some whole
-        → HoldsRows (file_of left.1) job.text (columns_of job) whole true) }
+        → (whole : List (List Value)) → IsMeaning job.flow files whole
+        → HoldsAll job.text (columns_of job) (has_fixed_root job.flow.nodes) whole (file_of left.1)) }
 {
     let mut disk = MemoryDisk::new(alloc, &[])?;
     disk.stop_at_write(write, torn);

@@ -13,12 +13,13 @@ use Rattle.load_runner.specs.Reports.{ended_report}
 use Rattle.load_runner.specs.Sources.{columns_of_last, root_columns}
 use Rattle.load_runner.specs.Starts.{is_ended}
 use Rattle.load_runner.proofs.Begun.{begun}
-use Rattle.load_runner.proofs.Ran.{Ran, kept_all, safe_all, grows_all, is_at, tables_kept, none_ended}
-use Rattle.load_runner.proofs.Loaded.{refused, rested, went_on, rests_of}
+use Rattle.load_runner.proofs.Ran.{CanResume, MeansOne, Ran, kept_all, safe_all, grows_all, is_at, tables_kept, none_ended}
+use Rattle.load_runner.proofs.Loaded.{refused, rested, went_on, all_held, rests_of}
+use Rattle.load_runner.proofs.Meanings.{resumed, made_is_meaning}
 use Rattle.load_runner.proofs.running.load.Goals as goal
 
 ran : (g : _) (c : goal.After-resume g) → IsTrue (g.K.Disk.state c.args.disk.now).honest
-    → Ran (record { nodes = c.args.flow.now.nodes; text = c.args.text.now; batch = c.args.batch }) (g.D.Depot.state c.args.depot.now).files c.in-Ok.found
+    → Ran (record { flow = c.args.flow.now; text = c.args.text.now; batch = c.args.batch }) (g.D.Depot.state c.args.depot.now).files c.in-Ok.found
     (g.K.Disk.state c.args.disk.now) (g.K.Disk.state c.begin.new.disk) (g.K.Disk.state c.resume.new.disk)
 ran g c honest =
     let still = c.begin.ensures.elapses.honest ∙ honest in
@@ -35,6 +36,12 @@ ran g c honest =
       grows = c.resume.ensures.grows still settled;
     }
 
+can_resume : (g : _) (c : goal.After-resume g) → CanResume (record { flow = c.args.flow.now; text = c.args.text.now; batch = c.args.batch }) (g.D.Depot.state c.args.depot.now).files
+can_resume g c = λ committed whole made. resumed c.args.flow.now c.root_node-root.ensures.flow c.tree_laws.ensures.root (g.D.Depot.state c.args.depot.now).files committed whole made
+
+means_one : (g : _) (c : goal.After-resume g) → MeansOne (record { flow = c.args.flow.now; text = c.args.text.now; batch = c.args.batch }) (g.D.Depot.state c.args.depot.now).files
+means_one g c = λ files are whole made means makes. made_is_meaning c.args.flow.now c.root_node-root.ensures.flow c.root_node-root.ensures.fixed files (g.D.Depot.state c.args.depot.now).files are whole made means makes
+
 pub returns : goal.returns
 returns g c =
     let agree = c.verdicts_agree.ensures in
@@ -47,7 +54,7 @@ returns g c =
     let new = g.K.Disk.state c.resume.new.disk in
     let depot = g.D.Depot.state c.args.depot.now in
     let still = g.D.Depot.state c.resume.new.depot in
-    let job : Job = record { nodes = c.args.flow.now.nodes; text = c.args.text.now; batch = c.args.batch } in
+    let job : Job = record { flow = c.args.flow.now; text = c.args.text.now; batch = c.args.batch } in
     let elapses = time_on old mid new c.begin.ensures.elapses c.resume.ensures.elapses in
     record {
       promise = record {
@@ -58,17 +65,23 @@ returns g c =
           ended = λ text blocks each is. absurd (none_ended agree once law job depot.files c.in-Ok.found old mid new (ran g c is) text blocks each);
         };
         kept = λ acknowledged each is. kept_all agree once law job depot.files c.in-Ok.found old mid new (ran g c is) acknowledged each is;
-        safe = λ files told whole acknowledged means each is. safe_all agree once law job depot.files c.in-Ok.found old mid new (ran g c is) cuts some files told whole acknowledged means each is;
+        safe = λ files told whole acknowledged means each is.
+            safe_all agree once law job depot.files c.in-Ok.found old mid new (ran g c is) cuts c.bag_laws.ensures.appended (means_one g c) c.root_node-root.ensures.fixed some files told whole acknowledged means each is;
+        completes = λ files told whole means is safe.
+            let on = c.begin.ensures.elapses.honest ∙ is in
+            all_held agree once law cuts job depot.files c.in-Ok.found old mid new (ran g c is) (can_resume g c) some (means_one g c) c.root_node-root.ensures.fixed files told whole means safe c.resume.result
+            (IfOk-weaker c.resume.result _ _ (λ report done. done on) c.resume.ensures.done) (on_ok_weaker c.resume.result (λ now. now on) c.resume.ensures.settled);
         grows = λ is each. grows_all agree once law job depot.files c.in-Ok.found old mid new (ran g c is) c.still_laws.ensures.first_rows c.still_laws.ensures.ended each;
         does = λ is.
             let on = c.begin.ensures.elapses.honest ∙ is in
             let settled = c.in-Ok.ensures.settled.settled is in
-            went_on agree once law cuts job depot.files c.in-Ok.found old mid new (ran g c is) some depot still refl c.resume.result c.root_node-root.result.now c.root_node-root.ensures.last
+            went_on agree once law cuts job depot.files c.in-Ok.found old mid new (ran g c is) (can_resume g c) some depot still refl c.resume.result c.root_node-root.result.now c.root_node-root.ensures.last
             (IfOk-weaker c.resume.result _ _ (λ report done. done on) c.resume.ensures.done) (on_ok_weaker c.resume.result (λ now. now on) c.resume.ensures.settled)
             (λ full. c.resume.ensures.full_settled full on settled) c.resume.ensures.full
             (λ failed. c.resume.ensures.stops failed on settled _ (is_at agree once law job depot.files c.in-Ok.found old mid new (ran g c is)))
             (λ unwritten. subst (λ disk. Spares old (g.K.Disk.state disk)) (sym (c.resume.ensures.untouched unwritten)) c.begin.ensures.spares) c.resume.ensures.table c.resume.ensures.same_flow;
         rests = rests_of job depot still old mid new c.resume.result c.begin.ensures.elapses.faults c.resume.ensures.none c.resume.ensures.causes;
+        served = c.resume.ensures.served;
       };
     }
 
@@ -85,7 +98,8 @@ returns-in-Err g c =
 
 pub returns-then-is_ended : goal.returns-then-is_ended
 returns-then-is_ended g c = record {
-  promise = rested c.verdicts_agree.ensures c.holds_once.ensures _ _ _ _ c.in-Ok.ensures.spares c.still_laws.ensures.first_rows c.still_laws.ensures.ended _ c.in-Ok.ensures.elapses
+  promise = rested c.verdicts_agree.ensures c.holds_once.ensures _ _ _ _ c.in-Ok.ensures.spares c.still_laws.ensures.first_rows c.still_laws.ensures.ended c.bag_laws.ensures.lengths _ c.in-Ok.ensures.elapses
+      (λ honest. (c.in-Ok.ensures.settled.settled honest, c.in-Ok.ensures.settled.file honest))
       (λ honest.
       let text = c.args.text.now in
       let columns = root_columns c.args.flow.now.nodes in

@@ -1,5 +1,7 @@
 use Rattle.std.proofs.Common.{◌≡◌, ◌<◌, ◌≤◌, ◌+◌, ◌==◌, ◌∙◌, ℕ, List, [], ◌∷◌, ◌++◌, length, map, get_or, All, IfSome, Some, None, option_copied, inl, inr, sym, ap, subst, length-append, arith}
-use Rattle.std.specs.List.{range_with_len}
+use Rattle.std.specs.List.{range_with_len, sum_by}
+use Rattle.std.proofs.lemmas.List.FromFn.{sum_by-map-range_with_len_more, take-map-range_with_len}
+use Rattle.std.proofs.lemmas.List.Sums.{sum_by-take-le}
 use Rattle.std.proofs.Math.Seq.{get_or-append_seam}
 use Rattle.std.proofs.lemmas.Bool.{cases_lt}
 use Rattle.std.proofs.lemmas.List.{get_or_append_left}
@@ -13,6 +15,7 @@ use Rattle.flow_types.specs.Columns.{IsInt}
 use Rattle.flow_types.specs.Flows.{number_of}
 use Rattle.kind_laws.specs.Laws.{OwnFit}
 use Rattle.load_runner.specs.Sources.{all_of, content_of, numbered}
+use Rattle.load_runner.specs.Asked.{asked_of}
 use Rattle.load_runner.proofs.Contents.{contents_none, contents_more, found_has, sources_fit}
 use Rattle.load_runner.proofs.sources.source_lists.Goals as goal
 
@@ -30,6 +33,24 @@ returns-in_default-clause-contents g c = λ files told.
     ap (content_of files) (sym at) ∙ c.in_ok-rows.ensures.content files (c.loop-number.invariant.consults.files ∙ told) ∙ c.in_default.is in
     contents_none (λ number. content_of files (numbered c.args.flow.now.nodes number)) (length c.args.flow.now.nodes) c.loop-number.number
     (let all : length c.nodes-nodes.result.now ≡ length c.args.flow.now.nodes = ap length c.nodes-nodes.ensures.same in omega (arith, c.loop-number-test.true, all)) none
+
+-- what the source of this number served, behind those before it
+served_next : (g : _) (c : goal.After-source_rows g) → (files : Files) → (g.D.Depot.state c.args.depot.now).files ≡ Some files
+    → (g.D.Depot.state c.source_rows.new.depot).served ≤ (g.D.Depot.state c.args.depot.now).served
+    + sum_by (asked_of files) (map (numbered c.args.flow.now.nodes) (range_with_len 0 (c.loop-number.number + 1)))
+served_next g c files told =
+    let number = c.loop-number.number in
+    let at : option_copied c.numbered.result ≡ numbered c.args.flow.now.nodes number = c.numbered.ensures ∙ ap (λ nodes. numbered nodes number) c.nodes-nodes.ensures.same in
+    let before = c.loop-number.invariant.served files told in
+    let here = rw at at (c.source_rows.ensures.served files (c.loop-number.invariant.consults.files ∙ told)) in
+    let more = sum_by-map-range_with_len_more (asked_of files) (numbered c.args.flow.now.nodes) 0 number number (omega arith) in
+    omega (arith, before, here, more)
+
+-- the first sources ask for no more than all
+served_all : (files : Files) (nodes : List Node) (k : ℕ) → k ≤ length nodes
+    → sum_by (asked_of files) (map (numbered nodes) (range_with_len 0 k)) ≤ sum_by (asked_of files) (map (numbered nodes) (range_with_len 0 (length nodes)))
+served_all files nodes k small =
+    rw (← take-map-range_with_len (numbered nodes) 0 (length nodes) k small) (sum_by-take-le (asked_of files) (map (numbered nodes) (range_with_len 0 (length nodes))) k)
 
 pub loop-number-preserved : goal.loop-number-preserved
 loop-number-preserved g c =
@@ -54,6 +75,7 @@ loop-number-preserved g c =
             rw (c.in_ok-push.ensures.items, same, get_or-append_seam c.loop-number.lists.items rows [] []) fit
       ];
       len = ap length c.in_ok-push.ensures.items ∙ (let all = length-append c.loop-number.lists.items (rows ∷ []) in omega (arith, c.loop-number.invariant.len));
+      served = λ files told. served_next g c files told;
       consults = record {
         files = c.in_ok-rows.ensures.consults.files ∙ c.loop-number.invariant.consults.files;
         faults = omega (arith, c.in_ok-rows.ensures.consults.faults, c.loop-number.invariant.consults.faults);

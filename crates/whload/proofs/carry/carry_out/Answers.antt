@@ -19,7 +19,7 @@ returns g c =
     let old = devices (g.D.Depot.state c.args.depot.now) (g.K.Disk.state c.args.disk.now) (g.S.Sink.state c.args.out.now) in
     let new = devices (g.D.Depot.state c.load_and_tell.new.depot) (g.K.Disk.state c.load_and_tell.new.disk) (g.S.Sink.state c.load_and_tell.new.out) in
     let flow = flow_text_of c.in-Ok.found in
-    let job : jobs.Job = record { nodes = flow.flow.nodes; text = flow.text; batch = c.batch.result } in
+    let job : jobs.Job = record { flow = flow.flow; text = flow.text; batch = c.batch.result } in
     record {
       begins = subst (λ (command : Asked). Begins command old new (answer_of c.load_and_tell.result)) c.batch.ensures (inl (record {
         found = g.D.Depot.state c.find.new.depot;
