@@ -7,6 +7,7 @@ ghost use Rattle.row_codec.specs.Lending.{tested};
 ghost use Rattle.extractors.specs.CsvContent.{named_columns, header_of, tuple_of, tuples_from, csv_content};
 ghost use Rattle.extractors.specs.Readers.{IsOpen, to_come};
 
+use crate::MAX_FILE;
 use crate::content::{is_named, without_mark};
 use crate::fault::{CsvFault, RecordFault};
 use crate::records::{next_record, reader_over};
@@ -22,7 +23,7 @@ pub(crate) fn check_content(
     schema: &Schema,
     any_header: bool,
 ) -> Result<(), Stop<CsvFault>>
-    requires { length file.now ≤ 268435456 }
+    requires { length file.now ≤ MAX_FILE }
     ensures { Gives result (tested (csv_content any_header schema.now file.now)) }
 {
     let columns = schema.columns();

@@ -8,11 +8,11 @@ use crate::check::check_content;
 use crate::content::without_mark;
 use crate::records::{next_record, reader_over};
 use crate::rows::Progress;
-use crate::{CsvFault, CsvRows};
+use crate::{CsvFault, CsvRows, MAX_FILE};
 use csv::ByteRecord;
 use std::alloc::Global;
 use std::marker::Model;
-use tuple_schema::{Memory, Schema, Stop};
+use tuple_schema::{Memory, Schema, Stop, Tuples};
 
 /// A CSV file that has a content, kept as its bytes. A contract sees it as its columns and its rows.
 #[derive(Drop)]
@@ -39,7 +39,7 @@ impl CsvSource {
         schema: &Schema,
         any_header: bool,
     ) -> Result<CsvSource, Stop<CsvFault>>
-        requires { length file.items ≤ 268435456 }
+        requires { length file.items ≤ MAX_FILE }
         ensures content { GivesView (λ s. s.rows) result (csv_content any_header schema.now file.items) }
         ensures columns { IfOk result (λ s. s.columns ≡ schema.now) }
     {
@@ -72,6 +72,15 @@ impl CsvSource {
             fields,
             progress: Progress::Reading,
         })
+    }
+
+    /// The rows as tuples, which are read again from the file.
+    pub fn tuples(&self, alloc: Global) -> Result<Tuples, Memory>
+        ensures content { IfOk result (λ t. t ≡ self.now.rows) }
+        ensures fit { IfOk result (λ t. All (Fits self.now.columns) t) }
+    {
+        let rows = self.rows(alloc)?;
+        rows.into_tuples(alloc)
     }
 }
 

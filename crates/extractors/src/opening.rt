@@ -1,0 +1,74 @@
+// CSV sources over the files of a depot.
+ghost use Rattle.std.specs.Prelude.{◌≡◌, ◌≢◌, ◌≤◌, ◌+◌, Some, Err, IfOk};
+ghost use Rattle.outside.specs.Counts.{Rose};
+ghost use Rattle.outside.specs.Depot.{Files, file_at, Consults};
+ghost use Rattle.outside.specs.Whole.{found_in, size_of};
+ghost use Rattle.tuple_schema.specs.Stops.{GivesView};
+ghost use Rattle.tuple_schema.specs.declared.memory.Stop.TheVariants as stop;
+ghost use Rattle.extractors.specs.declared.fault.CsvFault.TheVariants as fault;
+ghost use Rattle.extractors.specs.Opening.{source_content};
+
+use crate::{CsvFault, CsvSource};
+use outside::{Depot, WholeFile, read_whole};
+use std::alloc::Global;
+use tuple_schema::{Schema, Stop};
+
+/// The longest source file, in bytes.
+pub const MAX_FILE: u64 = 268_435_456;
+
+impl CsvSource {
+    /// Reads the depot's file once, checks it and keeps it.
+    pub fn open<D: Depot>(
+        alloc: Global,
+        depot: &mut D,
+        file: &str,
+        schema: &Schema,
+        any_header: bool,
+    ) -> Result<CsvSource, Stop<CsvFault>>
+        ensures content { (files : Files) → (D.state depot.old).files ≡ Some files
+            → result ≢ Err (stop.Fault fault.Depot)
+            → GivesView (λ s. s.rows) result
+            (source_content any_header schema.now (found_in MAX_FILE (file_at files file.now))) }
+        ensures cause { result ≡ Err (stop.Fault fault.Depot)
+            → Rose (D.state depot.old).faults (D.state depot.new).faults }
+        ensures columns { IfOk result (λ s. s.columns ≡ schema.now) }
+        ensures consults { Consults (D.state depot.old) (D.state depot.new) }
+        ensures served { (files : Files) → (D.state depot.old).files ≡ Some files
+            → (D.state depot.new).served ≤ (D.state depot.old).served + size_of (file_at files file.now) }
+    {
+        open_within(alloc, depot, file, MAX_FILE, schema, any_header)
+    }
+}
+
+// The same of a file of at most so many bytes.
+fn open_within<D: Depot>(
+    alloc: Global,
+    depot: &mut D,
+    file: &str,
+    limit: u64,
+    schema: &Schema,
+    any_header: bool,
+) -> Result<CsvSource, Stop<CsvFault>>
+    requires { limit ≤ MAX_FILE }
+    ensures content { (files : Files) → (D.state depot.old).files ≡ Some files
+        → result ≢ Err (stop.Fault fault.Depot)
+        → GivesView (λ s. s.rows) result
+        (source_content any_header schema.now (found_in limit (file_at files file.now))) }
+    ensures cause { result ≡ Err (stop.Fault fault.Depot)
+        → Rose (D.state depot.old).faults (D.state depot.new).faults }
+    ensures columns { IfOk result (λ s. s.columns ≡ schema.now) }
+    ensures consults { Consults (D.state depot.old) (D.state depot.new) }
+    ensures served { (files : Files) → (D.state depot.old).files ≡ Some files
+        → (D.state depot.new).served ≤ (D.state depot.old).served + size_of (file_at files file.now) }
+{
+    match read_whole(alloc, depot, file, limit) {
+        Ok(WholeFile::Read(bytes)) => CsvSource::of(alloc, bytes, schema, any_header),
+        Ok(WholeFile::TooLarge { size }) => Err(Stop::Fault(CsvFault::TooLarge { size })),
+        Ok(WholeFile::Missing) => Err(Stop::Fault(CsvFault::Missing)),
+        Err(Stop::Memory) => Err(Stop::Memory),
+        Err(Stop::Fault(_)) => Err(Stop::Fault(CsvFault::Depot)),
+    }
+}
+
+#[cfg(test)]
+mod tests;
