@@ -29,5 +29,5 @@ phrase_leaves (negated p) h = subst LeavesFit (sym (negated_tree (tree p))) (phr
 phrase_leaves (is_null p) h = subst LeavesFit (sym (null_tree (tree p))) (phrase_leaves p h)
 phrase_leaves (is_not_null p) h = subst LeavesFit (sym (not_null_tree (tree p))) (phrase_leaves p h)
 
-pub leaves : (text : List ℕ) (x : Expr) → IsText text x → LeavesFit (tree_of x)
-leaves text x is = subst (λ y. LeavesFit (tree_of y)) is.4 (phrase_leaves is.1 is.2.1)
+pub leaves : (source : List ℕ) (x : Expr) → IsText source x → LeavesFit (tree_of x)
+leaves source x is = subst (λ y. LeavesFit (tree_of y)) is.4 (phrase_leaves is.1 is.2.1)

@@ -37,10 +37,10 @@ Has (sort.Value k n) m = HasScale k × HasValue m k n
 Has sort.Truth m = m ≡ truly (truth_in m)
 
 -- what an equation of options gives
-some_gives : {A : Type 0} (P : A → Type 0) (s t : A) → Some s ≡ Some t → P s → P t
+pub some_gives : {A : Type 0} (P : A → Type 0) (s t : A) → Some s ≡ Some t → P s → P t
 some_gives P s t same h = subst P (let both : s ≡ t = cc in both) h
 
-none_gives : {A : Type 0} (P : A → Type 0) (t : A) → None ≡ Some t → P t
+pub none_gives : {A : Type 0} (P : A → Type 0) (t : A) → None ≡ Some t → P t
 none_gives P t same = absurd cc
 
 -- numbers
@@ -84,7 +84,7 @@ number_by p z true fit k e =
 number_by p z false fit k e =
     subst (λ m. HasScale k × HasValue m k true) (sym (no_units z p fit)) (number_nothing p k e)
 
-number_units : (p : ℕ) (z : ℤ) → IsNumber p (units_if z p)
+pub number_units : (p : ℕ) (z : ℤ) → IsNumber p (units_if z p)
 number_units p z = number_by p z (fits64 z) refl
 
 number_of : (p : ℕ) (m : Meaning) (s : ExprKind) → IsNumber p m → (o : Option ColumnKind) → number_kind p ≡ o
@@ -108,7 +108,7 @@ numeric k n p (truly t) h is = absurd h
 module _ (f : ℕ → ℕ → ℕ) (g : Meaning → Meaning → Meaning)
   (made : (x : ℤ) (p : ℕ) (y : ℤ) (q : ℕ) → IsNumber (f p q) (g (units x p) (units y q)))
   (left : (y : Meaning) → g nothing y ≡ nothing) (right : (x : ℤ) (p : ℕ) → g (units x p) nothing ≡ nothing)
-where
+  where
   result : (p q : ℕ) (x y : Meaning) → Numeric p x → Numeric q y → IsNumber (f p q) (g x y)
   result p q nothing y h i = subst (IsNumber (f p q)) (sym (left y)) (number_nothing (f p q))
   result p q (units x a) nothing h i = subst (IsNumber (f p q)) (sym (right x a)) (number_nothing (f p q))
@@ -128,14 +128,14 @@ where
   arithmetic_by k l n m s x y h i (Some p) (Some q) is js e =
       number_of (f p q) (g x y) s (result p q x y (numeric k n p x h is) (numeric l m q y i js)) (number_kind (f p q)) refl e
 
-  arithmetic_has : (a b s : ExprKind) (x y : Meaning) → Has a x → Has b y → arithmetic f a b ≡ Some s → Has s (g x y)
+  pub arithmetic_has : (a b s : ExprKind) (x y : Meaning) → Has a x → Has b y → arithmetic f a b ≡ Some s → Has s (g x y)
   arithmetic_has sort.Truth sort.Truth s x y h i e = none_gives (λ s. Has s (g x y)) s e
   arithmetic_has sort.Truth (sort.Value l m) s x y h i e = none_gives (λ s. Has s (g x y)) s e
   arithmetic_has (sort.Value k n) sort.Truth s x y h i e = none_gives (λ s. Has s (g x y)) s e
   arithmetic_has (sort.Value k n) (sort.Value l m) s x y h i e =
       arithmetic_by k l n m s x y h.1 i.1 (places_of k) (places_of l) refl refl e
 
-over_made : (x : ℤ) (p : ℕ) (y : ℤ) (q : ℕ) → IsNumber p (quotient x p y q)
+pub over_made : (x : ℤ) (p : ℕ) (y : ℤ) (q : ℕ) → IsNumber p (quotient x p y q)
 over_made x p (pos zero) q = number_nothing p
 over_made x p (pos (suc n)) q = number_units p (int_div (times_ten x q) (pos (suc n)))
 over_made x p (negsuc n) q = number_units p (int_div (times_ten x q) (negsuc n))
@@ -155,7 +155,7 @@ same_by g made none k n s x h None is e = none_gives (λ s. Has s (g x)) s e
 same_by g made none k n s x h (Some p) is e =
     number_of p (g x) s (alone g (λ p. p) made none p x (numeric k n p x h is)) (number_kind p) refl e
 
-same_has : (g : Meaning → Meaning) → ((x : ℤ) (p : ℕ) → IsNumber p (g (units x p))) → g nothing ≡ nothing
+pub same_has : (g : Meaning → Meaning) → ((x : ℤ) (p : ℕ) → IsNumber p (g (units x p))) → g nothing ≡ nothing
     → (a s : ExprKind) (x : Meaning) → Has a x → same_number a ≡ Some s → Has s (g x)
 same_has g made none sort.Truth s x h e = none_gives (λ s. Has s (g x)) s e
 same_has g made none (sort.Value k n) s x h e = same_by g made none k n s x h.1 (places_of k) refl e
@@ -169,11 +169,11 @@ scale_by c k n s x h (Some p) is e =
     (λ x p. number_units c (cond (nat_le p c) (times_ten x (c - p)) (rounded x (10 ^ (p - c))))) refl p x (numeric k n p x h is))
     (number_kind c) refl e
 
-scale_has : (c : ℕ) (a s : ExprKind) (x : Meaning) → Has a x → number_with c a ≡ Some s → Has s (with_places c x)
+pub scale_has : (c : ℕ) (a s : ExprKind) (x : Meaning) → Has a x → number_with c a ≡ Some s → Has s (with_places c x)
 scale_has c sort.Truth s x h e = none_gives (λ s. Has s (with_places c x)) s e
 scale_has c (sort.Value k n) s x h e = scale_by c k n s x h.1 (places_of k) refl e
 
-literal_by : (z : ℤ) (p : ℕ) (s : ExprKind) → FitsSigned w64 z → (o : Option ColumnKind) → number_kind p ≡ o
+pub literal_by : (z : ℤ) (p : ℕ) (s : ExprKind) → FitsSigned w64 z → (o : Option ColumnKind) → number_kind p ≡ o
     → option_map (λ k. sort.Value k false) o ≡ Some s → Has s (units_if z p)
 literal_by z p s h None is e = none_gives (λ s. Has s (units_if z p)) s e
 literal_by z p s h (Some k) is e =
@@ -183,7 +183,7 @@ literal_by z p s h (Some k) is e =
 
 -- truths
 
-truths_has : (a b s : ExprKind) (t : Truth) → truths a b ≡ Some s → Has s (truly t)
+pub truths_has : (a b s : ExprKind) (t : Truth) → truths a b ≡ Some s → Has s (truly t)
 truths_has sort.Truth sort.Truth s t e = some_gives (λ s. Has s (truly t)) sort.Truth s e refl
 truths_has sort.Truth (sort.Value l m) s t e = none_gives (λ s. Has s (truly t)) s e
 truths_has (sort.Value k n) b s t e = none_gives (λ s. Has s (truly t)) s e
@@ -192,17 +192,17 @@ test_by : (s : ExprKind) (t : Truth) (b : Bool) → cond b (Some sort.Truth) Non
 test_by s t true e = some_gives (λ s. Has s (truly t)) sort.Truth s e refl
 test_by s t false e = none_gives (λ s. Has s (truly t)) s e
 
-comparison_has : (a b s : ExprKind) (t : Truth) → comparison a b ≡ Some s → Has s (truly t)
+pub comparison_has : (a b s : ExprKind) (t : Truth) → comparison a b ≡ Some s → Has s (truly t)
 comparison_has sort.Truth sort.Truth s t e = none_gives (λ s. Has s (truly t)) s e
 comparison_has sort.Truth (sort.Value l m) s t e = none_gives (λ s. Has s (truly t)) s e
 comparison_has (sort.Value k n) sort.Truth s t e = none_gives (λ s. Has s (truly t)) s e
 comparison_has (sort.Value k n) (sort.Value l m) s t e = test_by s t (are_comparable k l) e
 
-denied_has : (a s : ExprKind) (t : Truth) → truth_kind a ≡ Some s → Has s (truly t)
+pub denied_has : (a s : ExprKind) (t : Truth) → truth_kind a ≡ Some s → Has s (truly t)
 denied_has sort.Truth s t e = some_gives (λ s. Has s (truly t)) sort.Truth s e refl
 denied_has (sort.Value k n) s t e = none_gives (λ s. Has s (truly t)) s e
 
-null_has : (a s : ExprKind) (t : Truth) → null_test a ≡ Some s → Has s (truly t)
+pub null_has : (a s : ExprKind) (t : Truth) → null_test a ≡ Some s → Has s (truly t)
 null_has sort.Truth s t e = none_gives (λ s. Has s (truly t)) s e
 null_has (sort.Value k n) s t e = some_gives (λ s. Has s (truly t)) sort.Truth s e refl
 
@@ -223,7 +223,7 @@ joined_value (bytes s) (truly t) n m h i = absurd i
 joined_value (units z p) y n m h i = none_gives (λ p. HasValue (followed_by (units z p) y) kind.Text true) p h.0
 joined_value (truly t) y n m h i = absurd h
 
-texts_has : (a b s : ExprKind) (x y : Meaning) → Has a x → Has b y → texts a b ≡ Some s → Has s (followed_by x y)
+pub texts_has : (a b s : ExprKind) (x y : Meaning) → Has a x → Has b y → texts a b ≡ Some s → Has s (followed_by x y)
 texts_has sort.Truth b s x y h i e = none_gives (λ s. Has s (followed_by x y)) s e
 texts_has (sort.Value kind.Int n) b s x y h i e = none_gives (λ s. Has s (followed_by x y)) s e
 texts_has (sort.Value (kind.Dec p) n) b s x y h i e = none_gives (λ s. Has s (followed_by x y)) s e
@@ -241,7 +241,7 @@ length_value (bytes t) n h =
     subst (λ m. HasValue m kind.Int n) (sym (inside (pos (length t)) 0 fit (omega arith))) (refl, fit, omega arith)
 length_value (truly t) n h = absurd h
 
-length_has : (a s : ExprKind) (x : Meaning) → Has a x → length_kind a ≡ Some s → Has s (byte_count x)
+pub length_has : (a s : ExprKind) (x : Meaning) → Has a x → length_kind a ≡ Some s → Has s (byte_count x)
 length_has sort.Truth s x h e = none_gives (λ s. Has s (byte_count x)) s e
 length_has (sort.Value kind.Int n) s x h e = none_gives (λ s. Has s (byte_count x)) s e
 length_has (sort.Value (kind.Dec p) n) s x h e = none_gives (λ s. Has s (byte_count x)) s e
@@ -272,7 +272,7 @@ first_value (units z p) y k n m h i = h
 first_value (bytes t) y k n m h i = h
 first_value (truly t) y k n m h i = absurd h
 
-coalesced_has : (a b s : ExprKind) (x y : Meaning) → Has a x → Has b y → one_kind (λ n m. m) a b ≡ Some s → Has s (first_of x y)
+pub coalesced_has : (a b s : ExprKind) (x y : Meaning) → Has a x → Has b y → one_kind (λ n m. m) a b ≡ Some s → Has s (first_of x y)
 coalesced_has sort.Truth sort.Truth s x y h i e = none_gives (λ s. Has s (first_of x y)) s e
 coalesced_has sort.Truth (sort.Value l m) s x y h i e = none_gives (λ s. Has s (first_of x y)) s e
 coalesced_has (sort.Value k n) sort.Truth s x y h i e = none_gives (λ s. Has s (first_of x y)) s e
@@ -302,7 +302,7 @@ choice_value truth.True x y k n m h i = nullable_left x k n m h
 choice_value truth.False x y k n m h i = nullable_right y k n m i
 choice_value truth.Unknown x y k n m h i = nullable_right y k n m i
 
-choice_has : (c a b s : ExprKind) (t : Truth) (x y : Meaning) → Has a x → Has b y → choice_kind c a b ≡ Some s → Has s (choice t x y)
+pub choice_has : (c a b s : ExprKind) (t : Truth) (x y : Meaning) → Has a x → Has b y → choice_kind c a b ≡ Some s → Has s (choice t x y)
 choice_has (sort.Value j o) a b s t x y h i e = none_gives (λ s. Has s (choice t x y)) s e
 choice_has sort.Truth sort.Truth sort.Truth s t x y h i e = none_gives (λ s. Has s (choice t x y)) s e
 choice_has sort.Truth sort.Truth (sort.Value l m) s t x y h i e = none_gives (λ s. Has s (choice t x y)) s e

@@ -63,7 +63,7 @@ within_list (y ∷ xs) (suc i) x is = let h = within_list xs i x is in omega (ar
 
 module _ (cs : List Column) (vs : List Value) (scaled : All (λ c. HasScale c.kind) cs) (fit : fits cs vs ≡ true)
   (short : All IsWithin vs)
-where
+  where
   named_by : (p : Column → Bool) (s : ExprKind) (i : ℕ) (o : Option Column) → slice_get cs i ≡ o → column_kind o ≡ Some s
       → Has s (meaning_at cs vs (cond (ltb i (length cs)) (Some i) None))
   named_by p s i None is e = none_gives (λ s. Has s (meaning_at cs vs (cond (ltb i (length cs)) (Some i) None))) s e
@@ -117,7 +117,7 @@ where
 
   has : (x : Tree) → LeavesFit x → (s : ExprKind) → kind_of cs x ≡ Some s → Has s (meaning cs vs x)
   has (number z p) leaf s e = literal_by z p s leaf (number_kind p) refl e
-  has (text t) leaf s e = some_gives (λ s. Has s (bytes t)) (sort.Value kind.Text false) s e (tt, refl, leaf)
+  has (text t) leaf s e = some_gives (λ s. Has s (bytes t)) (sort.Value kind.Text false) s e (tt, (refl, leaf))
   has (column name) leaf s e = named (λ c. bytes_eq c.name name) s e
   has (joined o a b) leaf s e =
       let x = meaning cs vs a in
