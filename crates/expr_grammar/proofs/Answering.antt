@@ -23,7 +23,8 @@ use Rattle.expr_grammar.specs.declared.fault.ExprFault.{ExprFault}
 use Rattle.expr_grammar.specs.declared.fault.ExprWhat.{ExprWhat}
 use Rattle.expr_grammar.specs.declared.fault.ExprWhat.TheVariants as what
 use Rattle.expr_grammar.proofs.Complete.{advance, led_to, allowed, go, tokens_taken, number_kind, text_no_number, scale_number}
-use Rattle.expr_grammar.proofs.Sound.{Holds, Completed, completed, next_holds, limits_from, Whole}
+use Rattle.expr_grammar.proofs.Holes.{Holds, Completed, completed}
+use Rattle.expr_grammar.proofs.Sound.{next_holds, limits_from, Whole}
 use Rattle.expr_grammar.proofs.Lexical.{Stops, Tidy, tidy_word, tokens_of, symbol_plain, grown_word, grown_symbol, number_grows, digit_of, symbol_of, quote_of, text_grows, not_longer, not_true, token_number, token_symbol, digit_no_letter}
 use Rattle.expr_grammar.proofs.Standing.{taken_token, begins_front, number_end}
 use Rattle.expr_grammar.proofs.Points.{Pointed, pointed, digit_token}

@@ -1,5 +1,7 @@
 pub mod Columns
 pub mod Complete
+pub mod OfKind
+pub mod Holes
 pub mod Sound
 pub mod Lexical
 pub mod Standing
@@ -16,3 +18,4 @@ pub mod Numbers
 pub mod Past
 pub mod Ranges
 pub mod Turns
+pub mod Steps

@@ -21,7 +21,8 @@ use Rattle.expr_grammar.specs.declared.state.Mode.{Mode}
 use Rattle.expr_grammar.specs.declared.state.Mode.TheVariants as m
 use Rattle.expr_grammar.proofs.Columns.{column_plain}
 use Rattle.expr_grammar.proofs.Complete.{advance, led_to, allowed, go, go_on, tokens_taken, all_of, finish_in, scale_number, word_plain, name_word}
-use Rattle.expr_grammar.proofs.Sound.{Holds, Completed, completed, next_holds, limits_from, Whole, whole_of}
+use Rattle.expr_grammar.proofs.Holes.{Holds, Completed, completed}
+use Rattle.expr_grammar.proofs.Sound.{next_holds, limits_from, Whole, whole_of}
 use Rattle.expr_grammar.proofs.Lexical.{Stops, longest_from_stops, no_space, token_word, token_number, token_text}
 use Rattle.expr_grammar.proofs.Standing.{Ended, ended_of, taken_token}
 use Rattle.expr_grammar.proofs.Bytes.{past-none, past-some, past-nothing, read-end, read-step, stepped-on, stepped-off, stepped-past, begun-token, begun-none, read-goes, read-fails, reads_expression}

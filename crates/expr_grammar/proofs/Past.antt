@@ -17,7 +17,7 @@ use Rattle.expr_grammar.specs.declared.fault.ExprWhat.TheVariants as what
 use Rattle.expr_grammar.specs.Machine.{State, past, led, judged, beyond, at_mode, fault, is_bad_already, takes, takes_in, levels_in}
 use Rattle.expr_grammar.proofs.Columns.{plain_column}
 use Rattle.expr_grammar.proofs.Complete.{number_kind, scale_number}
-use Rattle.expr_grammar.proofs.Sound.{IsOfKind, of_kind}
+use Rattle.expr_grammar.proofs.OfKind.{IsOfKind, of_kind}
 
 pub past_led : (strict : Bool) (at : ℕ) (s : State) (w : List ℕ) → 0 < length w → past strict at s w ≡ led strict at w (takes s w)
 unfolding past

@@ -19,7 +19,7 @@ use Rattle.expr_grammar.specs.declared.state.Frame.{Frame}
 use Rattle.expr_grammar.specs.declared.state.Mode.{Mode}
 use Rattle.expr_grammar.specs.declared.state.Mode.TheVariants as m
 use Rattle.expr_grammar.proofs.Complete.{number_kind, text_kind, name_kind, scale_number, name_word}
-use Rattle.expr_grammar.proofs.Sound.{IsFixed, IsOfKind, of_kind}
+use Rattle.expr_grammar.proofs.OfKind.{IsFixed, IsOfKind, of_kind}
 use Rattle.expr_grammar.proofs.Lexical.{among_all, front_number, front_text, front_append, rest_of_front, token_word, token_number, token_text}
 
 some_is : {A : Type 0} (o : Option A) (x : A) → o ≡ Some x → is_some o ≡ true

@@ -20,7 +20,8 @@ use Rattle.expr_grammar.specs.declared.state.Frame.{Frame}
 use Rattle.expr_grammar.specs.declared.state.Mode.{Mode}
 use Rattle.expr_grammar.specs.declared.state.Mode.TheVariants as m
 use Rattle.expr_grammar.proofs.Complete.{advance, led_to, allowed, go, go_on, tokens_taken, all_of, finish_in, number_kind, after}
-use Rattle.expr_grammar.proofs.Sound.{Holds, Completed, completed, next_holds, limits_from, Whole, whole_of}
+use Rattle.expr_grammar.proofs.Holes.{Holds, Completed, completed}
+use Rattle.expr_grammar.proofs.Sound.{next_holds, limits_from, Whole, whole_of}
 use Rattle.expr_grammar.proofs.Lexical.{Stops, longest_from_stops, inside_continues, not_true, token_number}
 use Rattle.expr_grammar.proofs.Standing.{Ended, ended_of, taken_token}
 use Rattle.expr_grammar.proofs.Points.{Pointed, pointed, digit_token}

@@ -70,7 +70,7 @@ fn unexpected(at: u32) -> ExprFault
 }
 
 // The state after a number.
-#[tactic(auto, using(crate::proofs::Past::number_refused, crate::proofs::Past::number_led, crate::proofs::Past::number_large, crate::proofs::ScanLemmas::places_scanned))]
+#[tactic(auto, using(crate::proofs::Steps::number_steps))]
 fn past_number(at: u32, mode: Mode, scan: Scan, token: &[u8]) -> Result<Mode, Stop<ExprFault>>
     requires scanned { scan ≡ scan_of token.now }
     requires number { is_number token.now ≡ true }
@@ -114,7 +114,7 @@ fn past_digit(at: u32, operand: Expr, token: &[u8]) -> Result<Mode, Stop<ExprFau
 }
 
 // The state after a text in quotes.
-#[tactic(auto, using(crate::proofs::Past::text_refused, crate::proofs::Past::text_led, crate::proofs::Past::said_short, crate::proofs::Past::text_no_scale, crate::proofs::Past::text_some))]
+#[tactic(auto, using(crate::proofs::Steps::text_steps))]
 fn past_text(alloc: Global, at: u32, mode: Mode, token: &[u8]) -> Result<Mode, Stop<ExprFault>>
     requires text { is_text token.now ≡ true }
     requires utf8 { IsUtf8 (said token.now) }
@@ -152,7 +152,7 @@ fn refused(at: u32, scan: Scan, token: &[u8]) -> ExprFault
 }
 
 // What a token that is neither a number nor a text led to, where it can stand there.
-#[tactic(auto, using(crate::proofs::Past::other_within, crate::proofs::Past::other_deep))]
+#[tactic(auto, using(crate::proofs::Steps::other_steps))]
 fn led(
     at: u32,
     next: Option<Mode>,
@@ -180,7 +180,7 @@ fn led(
 }
 
 // The state after a token that is neither a number nor a text.
-#[tactic(auto, using(crate::proofs::Past::kind_number, crate::proofs::Past::kind_text, crate::proofs::Past::kind_name))]
+#[tactic(auto, using(crate::proofs::Steps::kind_steps))]
 fn past_other(
     alloc: Global,
     at: u32,
@@ -202,7 +202,7 @@ fn past_other(
 }
 
 // The state once a token that ends at this place is taken, if there is one.
-#[tactic(auto, unfolding(crate::specs::Machine::past), using(crate::proofs::ScanLemmas::number_whole, crate::proofs::ScanLemmas::text_whole, crate::proofs::Past::text_no_number))]
+#[tactic(auto, unfolding(crate::specs::Machine::past), using(crate::proofs::Steps::token_steps))]
 fn past(
     alloc: Global,
     at: u32,
@@ -259,7 +259,7 @@ fn ended(
 }
 
 // The state after a byte that goes on with no token, and the token that it begins.
-#[tactic(auto, unfolding(crate::specs::Machine::begun), using(crate::proofs::Ranges::range_one, crate::proofs::Ranges::range_none, crate::proofs::ScanLemmas::scanned_first, crate::proofs::ScanLemmas::scanned_none, crate::proofs::ScanLemmas::scan_one))]
+#[tactic(auto, unfolding(crate::specs::Machine::begun), using(crate::proofs::Steps::first_byte))]
 fn begin(
     text: &[u8],
     at: u32,
@@ -291,7 +291,7 @@ fn begin(
 }
 
 // The state after a byte that goes on with a token.
-#[tactic(auto, unfolding(crate::specs::Machine::stepped), using(crate::proofs::Ranges::range_more, crate::proofs::ScanLemmas::scanned_more))]
+#[tactic(auto, unfolding(crate::specs::Machine::stepped), using(crate::proofs::Steps::next_byte))]
 fn go_on(
     text: &[u8],
     token: Token,
@@ -332,7 +332,7 @@ fn go_on(
 }
 
 // Whether the token goes on with the byte.
-#[tactic(auto, using(crate::proofs::Ranges::range_more, crate::proofs::ScanLemmas::token_goes))]
+#[tactic(auto, using(crate::proofs::Steps::token_goes_on))]
 fn continues(text: &[u8], token: Token, at: u32) -> bool
     requires before { token.start ≤ at }
     requires inside { at < length text.now }

@@ -648,7 +648,7 @@ fn begins_fixed(mode: &Mode, frames: &[Frame], token: &[u8]) -> bool
                                 ) || begins_word(mode, frames, token)))))))))))))
 }
 
-#[tactic(auto, using(crate::proofs::ScanLemmas::number_begins, crate::proofs::ScanLemmas::text_begins, crate::proofs::ScanLemmas::word_scanned))]
+#[tactic(auto, using(crate::proofs::Steps::token_begins))]
 fn begins_kind(mode: &Mode, frames: &[Frame], scan: Scan, token: &[u8]) -> bool
     requires { scan ≡ scan_of token.now }
     ensures { result ≡ begins_by mode.now (reverse frames.now) token.now }

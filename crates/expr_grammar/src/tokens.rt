@@ -106,7 +106,7 @@ fn word_kind(token: &[u8]) -> Kind
 }
 
 /// What the token is.
-#[tactic(auto, using(crate::proofs::ScanLemmas::number_whole, crate::proofs::ScanLemmas::text_whole, crate::proofs::Columns::column_same))]
+#[tactic(auto, using(crate::proofs::Steps::token_kinds))]
 pub fn kind_of(scan: Scan, token: &[u8]) -> Kind
     requires { scan ≡ scan_of token.now }
     ensures { result ≡ kind_of token.now }
@@ -168,7 +168,7 @@ fn text_of(bytes: Vec<u8>) -> Text
 }
 
 /// A column's name.
-#[tactic(auto, using(crate::proofs::Utf8::column_utf8, crate::proofs::Utf8::column_short))]
+#[tactic(auto, using(crate::proofs::Steps::column_texts))]
 pub fn column_of(alloc: Global, token: &[u8]) -> Result<Text, Memory>
     requires { is_column token.now ≡ true }
     ensures { IfOk result (λ t. t ≡ token.now) }

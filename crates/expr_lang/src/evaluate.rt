@@ -3,7 +3,8 @@ ghost use Rattle.std.specs.Prelude.{◌≡◌, ◌≢◌, ◌≤◌, ◌<◌, le
 ghost use Rattle.tuple_schema.specs.Tuples.{lent};
 ghost use Rattle.tuple_schema.specs.Schemas.{IsSchema};
 ghost use Rattle.expr_lang.specs.Trees.{tree_of, IsPlain};
-ghost use Rattle.expr_lang.specs.Values.{Meaning, units, bytes, truly, meaning, meaning_in, meaning_at, place_of, joined_by, followed_by, opposite_number, size, with_places, plus, minus, times, over, first_of, choice, truth_in, is_nothing, byte_count, value_in, value_of, truth_of};
+ghost use Rattle.expr_lang.specs.Values.{Meaning, units, bytes, truly, meaning, meaning_in, meaning_at, place_of, joined_by, followed_by, opposite_number, size, with_places, plus, minus, times, over, first_of, choice, truth_in, is_nothing, is_something, decided, byte_count, value_in, value_of, truth_of};
+ghost use Rattle.expr_lang.specs.Values.{opposite as opposite_truth};
 ghost use Rattle.expr_lang.specs.Views.{seen, seen_number, IsShort};
 ghost use Rattle.tuple_schema.specs.Tuples.{IsShort as IsShortValue};
 
@@ -173,6 +174,30 @@ fn settled(operator: Operator, left: &Held<'_>) -> Option<Truth>
     }
 }
 
+// The opposite truth; what is no truth is Unknown.
+fn denied(part: &Held<'_>) -> Held<'static>
+    ensures seen { seen result ≡ truly (opposite_truth (truth_in (seen part.now))) }
+    ensures short { IsShort (seen result) }
+{
+    Held::Truth(part.truth().not())
+}
+
+// Whether it is Null.
+fn null_test(part: &Held<'_>) -> Held<'static>
+    ensures seen { seen result ≡ truly (decided (is_nothing (seen part.now))) }
+    ensures short { IsShort (seen result) }
+{
+    Held::Truth(decided(part.is_null()))
+}
+
+// Whether it isn't Null.
+fn value_test(part: &Held<'_>) -> Held<'static>
+    ensures seen { seen result ≡ truly (decided (is_something (seen part.now))) }
+    ensures short { IsShort (seen result) }
+{
+    Held::Truth(decided(!part.is_null()))
+}
+
 // The number with its sign turned; what is no number is Null.
 fn negated(part: &Held<'_>) -> Held<'static>
     ensures seen { seen result ≡ opposite_number (seen part.now) }
@@ -241,34 +266,16 @@ pub fn evaluate<'a, F: Fields>(
             let right = evaluate(alloc, b.get(), columns, row)?;
             joined_by(alloc, *operator, &left, &right)
         }
-        Expr::Not(a) => {
-            let part = evaluate(alloc, a.get(), columns, row)?;
-            Ok(Held::Truth(part.truth().not()))
-        }
-        Expr::Negated(a) => {
-            let part = evaluate(alloc, a.get(), columns, row)?;
-            Ok(negated(&part))
-        }
-        Expr::IsNull(a) => {
-            let part = evaluate(alloc, a.get(), columns, row)?;
-            Ok(Held::Truth(decided(part.is_null())))
-        }
-        Expr::IsNotNull(a) => {
-            let part = evaluate(alloc, a.get(), columns, row)?;
-            Ok(Held::Truth(decided(!part.is_null())))
-        }
-        Expr::Abs(a) => {
-            let part = evaluate(alloc, a.get(), columns, row)?;
-            Ok(size(&part))
-        }
-        Expr::Length(a) => {
-            let part = evaluate(alloc, a.get(), columns, row)?;
-            Ok(byte_count(&part))
-        }
-        Expr::Scale(a, places) => {
-            let part = evaluate(alloc, a.get(), columns, row)?;
-            Ok(with_places(*places, &part))
-        }
+        Expr::Not(a) => Ok(denied(&evaluate(alloc, a.get(), columns, row)?)),
+        Expr::Negated(a) => Ok(negated(&evaluate(alloc, a.get(), columns, row)?)),
+        Expr::IsNull(a) => Ok(null_test(&evaluate(alloc, a.get(), columns, row)?)),
+        Expr::IsNotNull(a) => Ok(value_test(&evaluate(alloc, a.get(), columns, row)?)),
+        Expr::Abs(a) => Ok(size(&evaluate(alloc, a.get(), columns, row)?)),
+        Expr::Length(a) => Ok(byte_count(&evaluate(alloc, a.get(), columns, row)?)),
+        Expr::Scale(a, places) => Ok(with_places(
+            *places,
+            &evaluate(alloc, a.get(), columns, row)?,
+        )),
         Expr::Coalesce(a, b) => {
             let first = evaluate(alloc, a.get(), columns, row)?;
             if first.is_null() {
@@ -277,14 +284,11 @@ pub fn evaluate<'a, F: Fields>(
                 Ok(first)
             }
         }
-        Expr::If(c, a, b) => {
-            let test = evaluate(alloc, c.get(), columns, row)?;
-            match test.truth() {
-                Truth::True => evaluate(alloc, a.get(), columns, row),
-                Truth::False => evaluate(alloc, b.get(), columns, row),
-                Truth::Unknown => evaluate(alloc, b.get(), columns, row),
-            }
-        }
+        Expr::If(c, a, b) => match evaluate(alloc, c.get(), columns, row)?.truth() {
+            Truth::True => evaluate(alloc, a.get(), columns, row),
+            Truth::False => evaluate(alloc, b.get(), columns, row),
+            Truth::Unknown => evaluate(alloc, b.get(), columns, row),
+        },
     }
 }
 
