@@ -8,3 +8,5 @@ pub mod Ran
 pub mod Loaded
 pub mod Contents
 mod ContentExamples
+pub mod Runs
+pub mod Meanings

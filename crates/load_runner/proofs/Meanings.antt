@@ -1,6 +1,7 @@
 -- What a flow means over files, and the runs over their contents.
 use Rattle.std.proofs.Common.{◌≡◌, ◌≤◌, ◌+◌, ◌-◌, ◌==◌, ◌∙◌, ℕ, zero, suc, min, List, [], ◌∷◌, ◌++◌, length, map, drop, cond, All, Bool, true, false, ◌&&◌, IsTrue, Option, Some, None, option_map, refl, sym, ap, subst, eq-eqb, inl, inr, arith}
 use Rattle.std.specs.List.{filter, list_all}
+use Rattle.std.proofs.Math.Dec.{eqb-suc-zero}
 use Rattle.std.proofs.lemmas.Bool.{cases_lt}
 use Rattle.std.proofs.lemmas.List.{length-drop}
 use Rattle.std.proofs.lemmas.List.Elements.{All-nil, All-head, All-tail, All-cons, filter-append}
@@ -138,7 +139,7 @@ pub record Resumed (flow : TypedFlow) (told : Option Files) (committed whole : L
   pub reported : (root : Node) → Some root ≡ root_in flow.nodes → report_of flow committed run ≡ skip_report root.id (length committed) (length whole)
 
 module _ (flow : TypedFlow) (is : IsFlow flow) (last : LastIsRoot) (committed : List Tuple) (lists : Lists) where
-  r : Trimming flow committed lists is.tree
+  abbrev r : Trimming flow committed lists is.tree
   r = trimming flow committed lists is.tree (rooted flow is (last flow is))
 
   reports : (some : List Tuple) → committed ≡ some → (whole : List Tuple) → list_of lists is.tree ≡ whole → (root : Node) → Some root ≡ root_in flow.nodes
@@ -149,8 +150,8 @@ module _ (flow : TypedFlow) (is : IsFlow flow) (last : LastIsRoot) (committed : 
       let passed : length (root_of r.run).left ≡ length whole - length (c ∷ cs) =
       ap length r.left ∙ length-drop (length committed) (list_of lists is.tree) ∙ rw (own, same) refl in
       let given : length (root_of r.run).given ≡ length whole = ap length (r.given ∙ own) in
-      rw counted flow committed lists is.tree r (rooted flow is (last flow is)) r.run refl
-      (rw (id, passed, given, dropped_is (length whole) (length (c ∷ cs))) refl)
+      let one = counted flow committed lists is.tree r (rooted flow is (last flow is)) r.run refl in
+      ap (map count_on) one ∙ rw (id, passed, given, dropped_is (length whole) (length (c ∷ cs)), eqb-suc-zero (length cs)) refl
 
 pub resumed : (flow : TypedFlow) (is : IsFlow flow) → LastIsRoot → (told : Option Files) (committed whole : List Tuple) → IsMade flow told whole → Resumed flow told committed whole
 resumed flow is last told committed whole makes =

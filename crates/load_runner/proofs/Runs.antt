@@ -2,6 +2,7 @@
 use Rattle.std.proofs.Common.{◌≡◌, ◌≤◌, ◌+◌, ◌==◌, ◌∙◌, ℕ, zero, suc, List, [], ◌∷◌, ◌++◌, length, map, drop, cond, count_by, All, Bool, true, false, IsTrue, Option, Some, None, refl, sym, ap, subst, eq-eqb, inl, inr, arith}
 use Rattle.std.proofs.lemmas.Bool.{cases_Bool}
 use Rattle.std.proofs.lemmas.List.Elements.{All-nil, All-head, All-tail, All-cons, All-append}
+use Rattle.std.proofs.lemmas.List.Sums.{sum_by-cons}
 use Rattle.std.proofs.lemmas.Option.{same_Some}
 use Rattle.list_algebra.specs.Bags.{Tuple}
 use Rattle.list_algebra.specs.Trees.{Tree, node, Trees, no_trees, tree, root_of, roots_of, in_order, all_in_order, seen_tree, seen_trees, EachNode, EachNodeBelow}
@@ -90,21 +91,33 @@ mutual
 
 -- The root, and the nodes below it.
 
+adds_one : (b : Bool) → b ≡ true → (let count : ℕ = cond b 1 0 in count) ≡ 1
+adds_one b is = rw is refl
+
+-- it counts the last one at least
+last_counted : {X : Type 0} (p : X → Bool) (xs : List X) (x : X) → p x ≡ true → 1 ≤ count_by p (xs ++ x ∷ [])
+last_counted p [] x is =
+    let own = sum_by-cons (λ y. cond (p y) 1 0) x [] in
+    let one = adds_one (p x) is in
+    omega (arith, own, one)
+last_counted p (y ∷ xs) x is =
+    let own = sum_by-cons (λ z. cond (p z) 1 0) y (xs ++ x ∷ []) in
+    let more = last_counted p xs x is in
+    omega (arith, own, more)
+
+-- where one is counted at most, and the last one is, no other is
 none_counted : {X : Type 0} (p : X → Bool) (xs : List X) (x : X) → count_by p (xs ++ x ∷ []) ≤ 1 → p x ≡ true → All (λ y. p y ≡ false) xs
 none_counted p [] x few is = All-nil (λ y. p y ≡ false)
-none_counted p (y ∷ xs) x few is = elim (cases_Bool (p y)) [
-  | inl yes ↦
-      let some = one_counted p xs x is in
-      absurd (let few2 = rw yes at few in omega (arith, few2, some))
-  | inr no ↦ All-cons (λ z. p z ≡ false) y xs no (none_counted p xs x (rw no at few) is)
-]
-  where
-    one_counted : {X : Type 0} (p : X → Bool) (xs : List X) (x : X) → p x ≡ true → 1 ≤ count_by p (xs ++ x ∷ [])
-    one_counted p [] x is = rw is (omega arith)
-    one_counted p (y ∷ xs) x is = let more = one_counted p xs x is in elim (cases_Bool (p y)) [
-      | inl yes ↦ rw yes (omega (arith, more))
-      | inr no ↦ rw no more
-    ]
+none_counted p (y ∷ xs) x few is =
+    let own = sum_by-cons (λ z. cond (p z) 1 0) y (xs ++ x ∷ []) in
+    let last = last_counted p xs x is in
+    let less : count_by p (xs ++ x ∷ []) ≤ 1 = omega (arith, own, few) in
+    All-cons (λ z. p z ≡ false) y xs
+    (elim (cases_Bool (p y)) [
+      | inl is_one ↦ let one = adds_one (p y) is_one in absurd (omega (arith, own, few, last, one))
+      | inr is_none ↦ is_none
+    ])
+    (none_counted p xs x less is)
 
 -- the flow, its root and its tree
 pub record Rooted (flow : TypedFlow) (t : Tree Node) : Type 0 where
@@ -177,6 +190,9 @@ trimming flow committed lists (node n trees) is =
 
 -- Any trimmed run brings the same.
 
+root_seen : (run : Tree Yield) → (root_of run).node ≡ root_of (seen_tree node_of_yield run)
+root_seen (node y below) = refl
+
 mutual
   yields_list : (flow : TypedFlow) (committed : List Tuple) (lists : Lists) (run : Tree Yield) → All (IsInner flow) (in_order (seen_tree node_of_yield run))
       → EachNode (Yields (Keeps flow committed) lists) run → (root_of run).left ≡ list_of lists (seen_tree node_of_yield run)
@@ -184,14 +200,8 @@ mutual
       let trees = seen_trees node_of_yield below in
       let own : IsInner flow y.node = All-head (IsInner flow) y.node [] (all_right (IsInner flow) (all_in_order trees) (y.node ∷ []) inner) in
       let left : y.left ≡ y.given = same_Some _ _ (sym (rw own at each.0.leaves)) in
-      left ∙ each.0.gives ∙ gives_same flow committed lists y below (all_left (IsInner flow) (all_in_order trees) (y.node ∷ []) inner) each.1
-
-  gives_same : (flow : TypedFlow) (committed : List Tuple) (lists : Lists) (y : Yield) (below : Trees Yield) → All (IsInner flow) (all_in_order (seen_trees node_of_yield below))
-      → EachNodeBelow (Yields (Keeps flow committed) lists) below
-      → output_of y.node.kind (columns_below below) (taken (lists y.node) (brought below)) ≡ list_of lists (node y.node (seen_trees node_of_yield below))
-  gives_same flow committed lists y below inner each =
-      let same = yields_lists flow committed lists below inner each in
-      rw (same.0, same.1) refl
+      let same = yields_lists flow committed lists below (all_left (IsInner flow) (all_in_order trees) (y.node ∷ []) inner) each.1 in
+      left ∙ each.0.gives ∙ rw (same.0, same.1) refl
 
   yields_lists : (flow : TypedFlow) (committed : List Tuple) (lists : Lists) (below : Trees Yield) → All (IsInner flow) (all_in_order (seen_trees node_of_yield below))
       → EachNodeBelow (Yields (Keeps flow committed) lists) below
@@ -202,9 +212,6 @@ mutual
       let others = yields_lists flow committed lists rest (all_right (IsInner flow) (in_order (seen_tree node_of_yield first)) (all_in_order (seen_trees node_of_yield rest)) inner) each.1 in
       (rw (root_seen first, others.0) refl, rw (some, others.1) refl)
 
-  root_seen : (run : Tree Yield) → (root_of run).node ≡ root_of (seen_tree node_of_yield run)
-  root_seen (node y below) = refl
-
 pub brings_behind : (flow : TypedFlow) (committed : List Tuple) (lists : Lists) (t : Tree Node) (run : Tree Yield) → Rooted flow t
     → IsTrimmedRun flow committed lists t run → at_root run ≡ drop (length committed) (list_of lists t)
 brings_behind flow committed lists t (node y below) is trimmed =
@@ -213,4 +220,6 @@ brings_behind flow committed lists t (node y below) is trimmed =
     let inner = is.inner y.node trees (sym of_tree) in
     let root : is_root flow.nodes y.node ≡ true = subst (λ (n : Node). is_root flow.nodes n ≡ true) (sym (ap root_of of_tree)) is.root in
     let left : y.left ≡ drop (length committed) y.given = same_Some _ _ (sym (rw root at trimmed.each.0.leaves)) in
-    left ∙ ap (drop (length committed)) (trimmed.each.0.gives ∙ gives_same flow committed lists y below inner trimmed.each.1 ∙ ap (list_of lists) of_tree)
+    let same = yields_lists flow committed lists below inner trimmed.each.1 in
+    let own : y.given ≡ list_of lists (node y.node trees) = trimmed.each.0.gives ∙ rw (same.0, same.1) refl in
+    left ∙ ap (drop (length committed)) (own ∙ ap (list_of lists) of_tree)

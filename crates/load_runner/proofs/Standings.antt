@@ -56,7 +56,7 @@ stands_of appended fixed whole rows ended begins all = record {
 -- where the order is fixed, rows that stand in an ended table are all of the meaning, in its order
 pub all_of_stands : Lengths → (fixed : Bool) (whole rows : List Tuple) → Stands fixed whole rows true → IsAll fixed whole rows
 all_of_stands lengths fixed whole rows stands = record {
-  bag = stands.all tt;
+  bag = stands.all refl;
   list = λ is. sym (whole_of_begins (stands.begins is));
 }
   where
@@ -67,7 +67,7 @@ all_of_stands lengths fixed whole rows stands = record {
     whole_of_begins : Begins rows whole → whole ≡ rows
     whole_of_begins begins =
         let long : length whole ≡ length rows + length begins.others = ap length begins.whole_is ∙ length-append rows begins.others in
-        let none = none_behind begins.others (lengths rows whole (stands.all tt) ∙ long) in
+        let none = none_behind begins.others (lengths rows whole (stands.all refl) ∙ long) in
         begins.whole_is ∙ ap (λ others. rows ++ others) none ∙ append-nil rows
 
 -- the committed rows, and behind them those that are missing

@@ -1,5 +1,5 @@
 // What holds of any number of loads.
-ghost use Rattle.std.specs.Prelude.{◌≡◌, ◌≤◌, ◌+◌, ℕ, List, length, Bool, IsTrue, Ok, Some};
+ghost use Rattle.std.specs.Prelude.{◌≡◌, ◌≤◌, ◌+◌, ℕ, List, length, Bool, true, false, IsTrue, Ok, Some};
 ghost use Rattle.list_algebra.specs.Bags.{Tuple};
 ghost use Rattle.list_algebra.specs.Trees.{Tree};
 ghost use Rattle.outside.specs.Words.{Files};

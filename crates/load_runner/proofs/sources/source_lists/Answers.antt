@@ -15,7 +15,7 @@ use Rattle.flow_types.specs.Columns.{IsInt}
 use Rattle.flow_types.specs.Flows.{number_of}
 use Rattle.kind_laws.specs.Laws.{OwnFit}
 use Rattle.load_runner.specs.Sources.{all_of, content_of, numbered}
-use Rattle.load_runner.specs.Asked.{asked_of}
+use Rattle.load_runner.specs.Asked.{asked_of, asked_bytes}
 use Rattle.load_runner.proofs.Contents.{contents_none, contents_more, found_has, sources_fit}
 use Rattle.load_runner.proofs.sources.source_lists.Goals as goal
 
@@ -34,23 +34,28 @@ returns-in_default-clause-contents g c = λ files told.
     contents_none (λ number. content_of files (numbered c.args.flow.now.nodes number)) (length c.args.flow.now.nodes) c.loop-number.number
     (let all : length c.nodes-nodes.result.now ≡ length c.args.flow.now.nodes = ap length c.nodes-nodes.ensures.same in omega (arith, c.loop-number-test.true, all)) none
 
--- what the source of this number served, behind those before it
-served_next : (g : _) (c : goal.After-source_rows g) → (files : Files) → (g.D.Depot.state c.args.depot.now).files ≡ Some files
-    → (g.D.Depot.state c.source_rows.new.depot).served ≤ (g.D.Depot.state c.args.depot.now).served
-    + sum_by (asked_of files) (map (numbered c.args.flow.now.nodes) (range_with_len 0 (c.loop-number.number + 1)))
-served_next g c files told =
-    let number = c.loop-number.number in
-    let at : option_copied c.numbered.result ≡ numbered c.args.flow.now.nodes number = c.numbered.ensures ∙ ap (λ nodes. numbered nodes number) c.nodes-nodes.ensures.same in
-    let before = c.loop-number.invariant.served files told in
-    let here = rw at at (c.source_rows.ensures.served files (c.loop-number.invariant.consults.files ∙ told)) in
-    let more = sum_by-map-range_with_len_more (asked_of files) (numbered c.args.flow.now.nodes) 0 number number (omega arith) in
-    omega (arith, before, here, more)
+-- what one more source serves, behind those before it
+served_more : (files : Files) (nodes : List Node) (number start before after : ℕ)
+    → before ≤ start + sum_by (asked_of files) (map (numbered nodes) (range_with_len 0 number)) → after ≤ before + asked_of files (numbered nodes number)
+    → after ≤ start + sum_by (asked_of files) (map (numbered nodes) (range_with_len 0 (number + 1)))
+served_more files nodes number start before after first here =
+    let more = sum_by-map-range_with_len_more (asked_of files) (numbered nodes) 0 number number (omega arith) in
+    omega (arith, first, here, more)
 
 -- the first sources ask for no more than all
 served_all : (files : Files) (nodes : List Node) (k : ℕ) → k ≤ length nodes
     → sum_by (asked_of files) (map (numbered nodes) (range_with_len 0 k)) ≤ sum_by (asked_of files) (map (numbered nodes) (range_with_len 0 (length nodes)))
 served_all files nodes k small =
     rw (← take-map-range_with_len (numbered nodes) 0 (length nodes) k small) (sum_by-take-le (asked_of files) (map (numbered nodes) (range_with_len 0 (length nodes))) k)
+
+-- what was served where the reading stops at a source
+served_stop : (files : Files) (nodes : List Node) (number start before after : ℕ) → number < length nodes
+    → before ≤ start + sum_by (asked_of files) (map (numbered nodes) (range_with_len 0 number)) → after ≤ before + asked_of files (numbered nodes number)
+    → after ≤ start + asked_bytes nodes files
+served_stop files nodes number start before after small first here =
+    let some = served_more files nodes number start before after first here in
+    let all = served_all files nodes (number + 1) (omega (arith, small)) in
+    omega (arith, some, all)
 
 pub loop-number-preserved : goal.loop-number-preserved
 loop-number-preserved g c =
@@ -75,7 +80,9 @@ loop-number-preserved g c =
             rw (c.in_ok-push.ensures.items, same, get_or-append_seam c.loop-number.lists.items rows [] []) fit
       ];
       len = ap length c.in_ok-push.ensures.items ∙ (let all = length-append c.loop-number.lists.items (rows ∷ []) in omega (arith, c.loop-number.invariant.len));
-      served = λ files told. served_next g c files told;
+      served = λ files told.
+          served_more files c.args.flow.now.nodes number _ _ _ (c.loop-number.invariant.served files told)
+          (rw at at (c.source_rows.ensures.served files (c.loop-number.invariant.consults.files ∙ told)));
       consults = record {
         files = c.in_ok-rows.ensures.consults.files ∙ c.loop-number.invariant.consults.files;
         faults = omega (arith, c.in_ok-rows.ensures.consults.faults, c.loop-number.invariant.consults.faults);
@@ -92,3 +99,27 @@ pub returns-clause-fit : goal.returns-clause-fit
 returns-clause-fit g c =
     sources_fit c.args.flow.now c.loop-number.lists.items (c.tree_laws.ensures.found c.args.flow.now c.nodes-nodes.ensures.flow)
     (λ k n small is. c.loop-number.invariant.fit k n (omega (arith, c.loop-number.invariant.len, small)) is)
+
+pub returns-in_err-rows-clause-served : goal.returns-in_err-rows-clause-served
+returns-in_err-rows-clause-served g c = λ files told.
+    let number = c.loop-number.number in
+    let at : option_copied c.numbered.result ≡ numbered c.args.flow.now.nodes number = c.numbered.ensures ∙ ap (λ nodes. numbered nodes number) c.nodes-nodes.ensures.same in
+    let small : number < length c.args.flow.now.nodes = let all : length c.nodes-nodes.result.now ≡ length c.args.flow.now.nodes = ap length c.nodes-nodes.ensures.same in omega (arith, c.loop-number-test.true, all) in
+    served_stop files c.args.flow.now.nodes number _ _ _ small (c.loop-number.invariant.served files told)
+    (rw at at (c.source_rows.ensures.served files (c.loop-number.invariant.consults.files ∙ told)))
+
+pub returns-in_default-clause-served : goal.returns-in_default-clause-served
+returns-in_default-clause-served g c = λ files told.
+    let number = c.loop-number.number in
+    let at : option_copied c.numbered.result ≡ numbered c.args.flow.now.nodes number = c.numbered.ensures ∙ ap (λ nodes. numbered nodes number) c.nodes-nodes.ensures.same in
+    let small : number < length c.args.flow.now.nodes = let all : length c.nodes-nodes.result.now ≡ length c.args.flow.now.nodes = ap length c.nodes-nodes.ensures.same in omega (arith, c.loop-number-test.true, all) in
+    served_stop files c.args.flow.now.nodes number _ _ _ small (c.loop-number.invariant.served files told)
+    (rw at at (c.source_rows.ensures.served files (c.loop-number.invariant.consults.files ∙ told)))
+
+pub returns-in_err-push-clause-served : goal.returns-in_err-push-clause-served
+returns-in_err-push-clause-served g c = λ files told.
+    let number = c.loop-number.number in
+    let at : option_copied c.numbered.result ≡ numbered c.args.flow.now.nodes number = c.numbered.ensures ∙ ap (λ nodes. numbered nodes number) c.nodes-nodes.ensures.same in
+    let small : number < length c.args.flow.now.nodes = let all : length c.nodes-nodes.result.now ≡ length c.args.flow.now.nodes = ap length c.nodes-nodes.ensures.same in omega (arith, c.loop-number-test.true, all) in
+    served_stop files c.args.flow.now.nodes number _ _ _ small (c.loop-number.invariant.served files told)
+    (rw at at (c.source_rows.ensures.served files (c.loop-number.invariant.consults.files ∙ told)))
