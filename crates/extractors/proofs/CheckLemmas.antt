@@ -1,10 +1,10 @@
 -- Headers, records and rows, one item after the other.
-use Rattle.std.proofs.Common.{◌≡◌, ◌≢◌, ◌<◌, ◌≤◌, ◌+◌, ℕ, zero, suc, List, [], ◌∷◌, length, drop, get_or, Bool, true, false, ◌||◌, cond, eqb, Option, Some, None, Result, Ok, Err, refl, ap, ◌∙◌, arith, length-drop, inl, inr}
+use Rattle.std.proofs.Common.{◌≡◌, ◌≢◌, ◌<◌, ◌≤◌, ◌+◌, ℕ, zero, suc, List, [], ◌∷◌, length, drop, get_or, Bool, true, false, ◌||◌, cond, eqb, Option, Some, None, Result, Ok, Err, refl, sym, ap, ◌∙◌, arith, add-one, drop-cons, length-drop, inl, inr}
 use Rattle.std.specs.Prelude.{bytes_eq, nat_eq, if◌then◌else◌}
 use Rattle.std.specs.List.{starts_with}
 use Rattle.std.proofs.lemmas.List.{drop_all}
 use Rattle.csv.specs.Records.{field_at}
-use Rattle.csv.proofs.RecordFacts.{field-there}
+use Rattle.csv.proofs.RecordFacts.{field-get, field-there}
 use Rattle.std.proofs.lemmas.Bool.{cases_lt}
 use Rattle.std.proofs.lemmas.Bool.Decides.{nat_tests}
 use Rattle.tuple_schema.specs.declared.value.Value.{Value}
@@ -16,14 +16,20 @@ use Rattle.row_codec.specs.Lending.{tested}
 use Rattle.extractors.specs.declared.fault.CsvFault.{CsvFault}
 use Rattle.extractors.specs.declared.fault.RecordFault.{RecordFault}
 use Rattle.extractors.specs.declared.fault.RecordFault.TheVariants as record_fault
-use Rattle.extractors.specs.CsvContent.{named_columns, in_column, values_from, tuple_of, row_fault, in_row, tuples_from}
-use Rattle.extractors.specs.Content.{csv_records, mark, without_mark}
-use Rattle.extractors.proofs.ContentLemmas.{drop_here, drop_field}
+use Rattle.extractors.specs.CsvContent.{mark, without_mark, csv_records, named_columns, in_column, values_from, tuple_of, row_fault, in_row, tuples_from}
 use Rattle.csv.specs.Machine.{Read, next_record}
 use Rattle.csv.specs.Reading.{records_from, records_next, default_config, strip_bom, is_bom}
 use Rattle.csv.specs.declared.parser.Config.{Config}
 use Rattle.csv.specs.declared.parser.State.{State}
 use Rattle.csv.specs.declared.parser.State.TheVariants as st
+
+drop_here : {X : Type 0} (xs : List X) (i : ℕ) (x : X) → i < length xs → x ≡ get_or xs i x
+    → drop i xs ≡ x ∷ drop (i + 1) xs
+drop_here xs i x below is = rw add-one (drop-cons xs i x below ∙ ap (λ y. y ∷ drop (suc i) xs) (sym is))
+
+drop_field : (fs : List (List ℕ)) (i : ℕ) (f : List ℕ) → i < length fs → field_at fs i ≡ Some f
+    → drop i fs ≡ f ∷ drop (i + 1) fs
+drop_field fs i f below is = rw add-one (drop-cons fs i [] below ∙ ap (λ y. y ∷ drop (suc i) fs) (field-get fs i f is))
 
 -- ---- headers
 

@@ -10,8 +10,7 @@ use Rattle.extractors.specs.declared.fault.CsvFault.{CsvFault}
 use Rattle.extractors.specs.declared.fault.CsvFault.TheVariants as fault
 use Rattle.extractors.specs.declared.fault.RecordFault.{RecordFault}
 use Rattle.extractors.specs.declared.fault.RecordFault.TheVariants as record_fault
-use Rattle.extractors.specs.Content.{csv_records, without_mark}
-use Rattle.extractors.specs.CsvContent.{named_columns, header_of, tuple_of, in_row, tuples_from, under_header, csv_content}
+use Rattle.extractors.specs.CsvContent.{csv_records, without_mark, named_columns, header_of, tuple_of, in_row, tuples_from, under_header, csv_content}
 
 -- it may have any fault but that of a depot
 abbrev pub IsOwn : {X : Type 0} → Result X CsvFault → Type 0

@@ -21,8 +21,7 @@ use Rattle.extractors.specs.declared.fault.CsvFault.{CsvFault}
 use Rattle.extractors.specs.declared.fault.CsvFault.TheVariants as fault
 use Rattle.extractors.specs.declared.fault.RecordFault.{RecordFault}
 use Rattle.extractors.specs.declared.fault.RecordFault.TheVariants as record_fault
-use Rattle.extractors.specs.Content.{csv_records, without_mark}
-use Rattle.extractors.specs.CsvContent.{header_of, in_column, values_from, tuple_of, in_row, tuples_from, under_header, csv_content}
+use Rattle.extractors.specs.CsvContent.{csv_records, without_mark, header_of, in_column, values_from, tuple_of, in_row, tuples_from, under_header, csv_content}
 use Rattle.extractors.specs.Readers.{GivesNext}
 use Rattle.extractors.specs.Sources.{SourceOf, good_rows, body_records, file_rows, AreGood, IsChecked, tuple_or_none, good_tuple, IsGoodRecord}
 

@@ -1,6 +1,7 @@
 -- What a CSV file holds under a schema, or the first place at which it is wrong.
-use Rattle.std.specs.Prelude.{ℕ, ◌+◌, List, [], ◌∷◌, length, Bool, ◌&&◌, ◌||◌, ◌==◌, Result, Ok, Err, bytes_eq, if◌then◌else◌}
-use Rattle.std.specs.List.{common_prefix_len}
+use Rattle.std.specs.Prelude.{ℕ, ◌+◌, List, [], ◌∷◌, length, drop, Bool, ◌&&◌, ◌||◌, ◌==◌, Result, Ok, Err, nat_eq, bytes_eq, if◌then◌else◌}
+use Rattle.std.specs.List.{common_prefix_len, starts_with}
+use Rattle.csv.specs.Reading.{records, default_config, strip_bom}
 use Rattle.tuple_schema.specs.declared.value.Value.{Value}
 use Rattle.tuple_schema.specs.declared.schema.Column.{Column}
 use Rattle.tuple_schema.specs.Stops.{◌>>=◌}
@@ -10,7 +11,18 @@ use Rattle.extractors.specs.declared.fault.CsvFault.{CsvFault}
 use Rattle.extractors.specs.declared.fault.CsvFault.TheVariants as fault
 use Rattle.extractors.specs.declared.fault.RecordFault.{RecordFault}
 use Rattle.extractors.specs.declared.fault.RecordFault.TheVariants as record_fault
-use Rattle.extractors.specs.Content.{csv_records, without_mark}
+
+-- the byte order mark, in UTF-8
+abbrev pub mark : List ℕ
+mark = 0xEF ∷ 0xBB ∷ 0xBF ∷ []
+
+-- the text without the one mark that may stand before it
+abbrev pub without_mark : List ℕ → List ℕ
+without_mark text = if starts_with nat_eq text mark then drop 3 text else text
+
+-- the records that `csv` defines for a text, by default and with no header handling; it takes off a mark of its own
+abbrev pub csv_records : List ℕ → List (List (List ℕ))
+csv_records text = records default_config (strip_bom text)
 
 -- how many columns at the front a header names; with any header every name will do
 abbrev pub named_columns : Bool → List Column → List (List ℕ) → ℕ
@@ -62,9 +74,9 @@ tuples_from row columns (r ∷ rs) = do
 -- the first record is the header, behind which rows count from 1; a file of no records has a header of no names
 unfoldable pub under_header : Bool → List Column → List (List (List ℕ)) → Result (List (List Value)) CsvFault
 under_header any columns [] = Err (fault.BadHeader 1)
-under_header any columns (header ∷ records) = do
+under_header any columns (header ∷ body) = do
   _ ← header_of any columns header
-  tuples_from 1 columns records
+  tuples_from 1 columns body
 
 -- the content of a file, or its first fault
 unfoldable pub csv_content : Bool → List Column → List ℕ → Result (List (List Value)) CsvFault

@@ -10,8 +10,7 @@ use Rattle.tuple_schema.specs.Schemas.{IsSchema}
 use Rattle.extractors.specs.declared.fault.RecordFault.{RecordFault}
 use Rattle.extractors.specs.declared.rows.Progress.{Progress}
 use Rattle.extractors.specs.declared.rows.Progress.TheVariants as progress
-use Rattle.extractors.specs.Content.{csv_records, without_mark}
-use Rattle.extractors.specs.CsvContent.{tuple_of}
+use Rattle.extractors.specs.CsvContent.{csv_records, without_mark, tuple_of}
 use Rattle.extractors.specs.Readers.{IsOpen, to_come}
 
 -- what a source is seen as

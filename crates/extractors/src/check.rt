@@ -8,9 +8,8 @@ ghost use Rattle.extractors.specs.CsvContent.{named_columns, header_of, tuple_of
 ghost use Rattle.extractors.specs.Readers.{IsOpen, to_come};
 
 use crate::MAX_FILE;
-use crate::content::{is_named, without_mark};
 use crate::fault::{CsvFault, RecordFault};
-use crate::records::{next_record, reader_over};
+use crate::records::{next_record, reader_over, without_mark};
 use csv::{ByteRecord, Reader};
 use row_codec::check_field;
 use std::alloc::Global;
@@ -70,7 +69,7 @@ fn named_columns(columns: &[Column], names: &ByteRecord, any_header: bool) -> us
 fn is_name_of(column: &Column, name: &[u8], any_header: bool) -> bool
     ensures { result ≡ (any_header || bytes_eq column.now.name name.now) }
 {
-    any_header || is_named(column, name)
+    any_header || column.name.as_str().as_bytes() == name
 }
 
 fn check_rows(

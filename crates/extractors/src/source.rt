@@ -5,8 +5,7 @@ ghost use Rattle.tuple_schema.specs.Stops.{GivesView};
 ghost use Rattle.extractors.specs.CsvContent.{csv_content};
 
 use crate::check::check_content;
-use crate::content::without_mark;
-use crate::records::{next_record, reader_over};
+use crate::records::{next_record, reader_over, without_mark};
 use crate::rows::Progress;
 use crate::{CsvFault, CsvRows, MAX_FILE};
 use csv::ByteRecord;

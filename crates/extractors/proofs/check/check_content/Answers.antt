@@ -1,5 +1,5 @@
 use Rattle.std.proofs.Common.{length, ap, sym, ◌∙◌, arith}
-use Rattle.extractors.specs.Content.{csv_records}
+use Rattle.extractors.specs.CsvContent.{csv_records}
 use Rattle.extractors.proofs.CheckLemmas.{csv_records_few, mark_shorter}
 use Rattle.extractors.proofs.SourceLemmas.{no_records, header_ok, header_err}
 use Rattle.extractors.proofs.check.check_content.Goals as goal

@@ -1,6 +1,6 @@
 use Rattle.std.proofs.Common.{All, ap, sym, subst, ◌∙◌}
 use Rattle.tuple_schema.specs.Schemas.{Fits}
-use Rattle.extractors.specs.Content.{csv_records, without_mark}
+use Rattle.extractors.specs.CsvContent.{csv_records, without_mark}
 use Rattle.extractors.specs.Sources.{SourceOf, good_rows}
 use Rattle.extractors.specs.Readers.{to_come}
 use Rattle.extractors.proofs.SourceLemmas.{rows_behind, source_fits}
