@@ -1,5 +1,5 @@
 -- The contents of sources, read one after the other.
-use Rattle.std.proofs.Common.{◌≡◌, ℕ, zero, suc, ◌+◌, ◌<◌, ◌≤◌, ◌==◌, List, [], ◌∷◌, ◌++◌, length, map, find, get_or, slice_get, All, IfSome, Bool, true, false, Option, Some, None, option_and_then, refl, ap, sym, ◌∙◌, subst, inl, inr, append-nil, arith}
+use Rattle.std.proofs.Common.{◌≡◌, ℕ, zero, suc, ◌+◌, ◌<◌, ◌≤◌, ◌==◌, List, [], ◌∷◌, ◌++◌, length, map, find, get_or, slice_get, All, IfSome, Bool, true, false, Option, Some, None, Result, Ok, Err, refl, ap, sym, ◌∙◌, subst, inl, inr, append-nil, arith}
 use Rattle.std.specs.List.{range_with_len}
 use Rattle.std.proofs.lemmas.Bool.{cases_Bool, cases_lt}
 use Rattle.std.proofs.lemmas.List.{get_or_past}
@@ -14,50 +14,57 @@ use Rattle.flow_types.specs.declared.node.Node.{Node}
 use Rattle.flow_types.specs.Flows.{TypedFlow, number_of, node_of}
 use Rattle.kind_laws.specs.Wholes.{by_number}
 use Rattle.kind_laws.specs.Laws.{OwnFit, SourcesFit}
-use Rattle.load_runner.specs.Sources.{before_others, all_of, numbered}
+use Rattle.tuple_schema.specs.Stops.{◌>>=◌}
+use Rattle.load_runner.specs.declared.fault.SourceFault.{SourceFault}
+use Rattle.load_runner.specs.Sources.{all_of, numbered}
+
+-- what all contents are, the first has, and the others
+all_of-split : (first : Result (List Tuple) SourceFault) (others : List (Result (List Tuple) SourceFault)) (found : List (List Tuple)) → all_of (first ∷ others) ≡ Ok found
+    → (rows : List Tuple) × (more : List (List Tuple)) × (first ≡ Ok rows) × (all_of others ≡ Ok more) × (rows ∷ more ≡ found)
+all_of-split (Err fault) others found is = absurd cc
+all_of-split (Ok rows) others found is = more (all_of others) refl is
+  where
+    more : (o : Result (List (List Tuple)) SourceFault) → all_of others ≡ o → (o >>= λ more. Ok (rows ∷ more)) ≡ Ok found
+        → (own : List Tuple) × (more : List (List Tuple)) × ((let first : Result (List Tuple) SourceFault = Ok rows in first) ≡ Ok own) × (all_of others ≡ Ok more) × (own ∷ more ≡ found)
+    more (Err fault) at is = absurd cc
+    more (Ok found) at is = (rows, found, refl, at, cc)
+
+all_of-cons : (first : Result (List Tuple) SourceFault) (others : List (Result (List Tuple) SourceFault)) (rows : List Tuple) (more : List (List Tuple)) → first ≡ Ok rows → all_of others ≡ Ok more
+    → all_of (first ∷ others) ≡ Ok (rows ∷ more)
+all_of-cons first others rows more one rest = rw (one, rest) refl
+
+abbrev contents_are : List (List Tuple) → Result (List (List Tuple)) SourceFault
+contents_are found = Ok found
 
 -- one list more
-snoc_step : (lists : List (Option (List Tuple))) (first rows : List Tuple) (found : List (List Tuple)) (o : Option (List (List Tuple))) → all_of lists ≡ o
-    → ((others : List (List Tuple)) → all_of lists ≡ Some others → all_of (lists ++ Some rows ∷ []) ≡ Some (others ++ rows ∷ []))
-    → all_of (Some first ∷ lists) ≡ Some found → all_of (Some first ∷ (lists ++ Some rows ∷ [])) ≡ Some (found ++ rows ∷ [])
-snoc_step lists first rows found None at more is = let no : None ≡ Some found = rw at at is in absurd (cc)
-snoc_step lists first rows found (Some others) at more is =
-    let same : first ∷ others ≡ found = same_Some _ _ (rw at at is) in
-    rw (more others at, ← same) refl
+all_of-snoc : (lists : List (Result (List Tuple) SourceFault)) (found : List (List Tuple)) (rows : List Tuple) → all_of lists ≡ Ok found
+    → all_of (lists ++ Ok rows ∷ []) ≡ Ok (found ++ rows ∷ [])
+all_of-snoc [] found rows is = let none : [] ≡ found = cc in rw (← none) refl
+all_of-snoc (first ∷ lists) found rows is =
+    let s = all_of-split first lists found is in
+    all_of-cons first (lists ++ Ok rows ∷ []) s.0 (s.1 ++ rows ∷ []) s.2 (all_of-snoc lists s.1 rows s.3) ∙ ap (λ (all : List (List Tuple)). contents_are (all ++ rows ∷ [])) s.4
 
-all_of-snoc : (lists : List (Option (List Tuple))) (found : List (List Tuple)) (rows : List Tuple) → all_of lists ≡ Some found
-    → all_of (lists ++ Some rows ∷ []) ≡ Some (found ++ rows ∷ [])
-all_of-snoc [] found rows is = let none : [] ≡ found = same_Some _ _ is in rw (← none) refl
-all_of-snoc (None ∷ lists) found rows is = let no : None ≡ Some found = is in absurd (cc)
-all_of-snoc (Some first ∷ lists) found rows is = snoc_step lists first rows found (all_of lists) refl (λ others at. all_of-snoc lists others rows at) is
+-- behind contents the first fault is the fault
+all_of-fault : (f : ℕ → Result (List Tuple) SourceFault) (a n m : ℕ) (found : List (List Tuple)) (fault : SourceFault) → m < n
+    → all_of (map f (range_with_len a m)) ≡ Ok found → f (a + m) ≡ Err fault → all_of (map f (range_with_len a n)) ≡ Err fault
+all_of-fault f a zero m found fault small before at = absurd (omega arith)
+all_of-fault f a (suc n) zero found fault small before at =
+    let here : f a ≡ Err fault = subst (λ k. f k ≡ Err fault) (let e : a + 0 ≡ a = omega arith in e) at in
+    rw here refl
+all_of-fault f a (suc n) (suc m) found fault small before at =
+    let s = all_of-split (f a) (map f (range_with_len (a + 1) m)) found before in
+    let there : f ((a + 1) + m) ≡ Err fault = subst (λ k. f k ≡ Err fault) (let e : a + suc m ≡ (a + 1) + m = omega arith in e) at in
+    rw (s.2, all_of-fault f (a + 1) n m s.1 fault (omega arith) s.3 there) refl
 
-nothing : (o : Option (List Tuple)) → option_and_then (before_others None) o ≡ None
-nothing None = refl
-nothing (Some rows) = refl
+pub contents_fault : (f : ℕ → Result (List Tuple) SourceFault) (n k : ℕ) (found : List (List Tuple)) (fault : SourceFault) → k < n
+    → all_of (map f (range_with_len 0 k)) ≡ Ok found → f k ≡ Err fault → all_of (map f (range_with_len 0 n)) ≡ Err fault
+contents_fault f n k found fault small before at =
+    all_of-fault f 0 n k found fault small before (subst (λ j. f j ≡ Err fault) (let e : k ≡ 0 + k = omega arith in e) at)
 
--- one of them is none
-all_of-none : (f : ℕ → Option (List Tuple)) (a n k : ℕ) → a ≤ k → k < a + n → f k ≡ None → all_of (map f (range_with_len a n)) ≡ None
-all_of-none f a zero k past small none = absurd (omega arith)
-all_of-none f a (suc n) k past small none = elim (cases_lt a k) [
-  | inl less ↦ rw (all_of-none f (a + 1) n k (omega arith) (omega arith) none) (nothing (f a))
-  | inr more ↦ let same : a ≡ k = omega arith in rw (same, none) refl
-]
-
-pub contents_none : (f : ℕ → Option (List Tuple)) (n k : ℕ) → k < n → f k ≡ None → all_of (map f (range_with_len 0 n)) ≡ None
-contents_none f n k small none = all_of-none f 0 n k (omega arith) (omega arith) none
-
-pub contents_more : (f : ℕ → Option (List Tuple)) (n : ℕ) (found : List (List Tuple)) (rows : List Tuple) → all_of (map f (range_with_len 0 n)) ≡ Some found → f n ≡ Some rows
-    → all_of (map f (range_with_len 0 (n + 1))) ≡ Some (found ++ rows ∷ [])
+pub contents_more : (f : ℕ → Result (List Tuple) SourceFault) (n : ℕ) (found : List (List Tuple)) (rows : List Tuple) → all_of (map f (range_with_len 0 n)) ≡ Ok found → f n ≡ Ok rows
+    → all_of (map f (range_with_len 0 (n + 1))) ≡ Ok (found ++ rows ∷ [])
 contents_more f n found rows is here =
     rw (map-range_with_len_more f 0 n n (omega arith), here) (all_of-snoc (map f (range_with_len 0 n)) found rows is)
-
--- a fact of all nodes is one of the node that is found
-pub found_has : (P : Node → Type 0) (p : Node → Bool) (nodes : List Node) → All P nodes → IfSome (find p nodes) P
-found_has P p [] all = tt
-found_has P p (n ∷ nodes) all = elim (cases_Bool (p n)) [
-  | inl passes ↦ rw passes (All-head P n nodes all)
-  | inr fails ↦ rw fails (found_has P p nodes (All-tail P n nodes all))
-]
 
 none_fit : (k : Kind) (columns : _) → OwnFit k columns []
 none_fit (kind.Source file) columns = All-nil (Fits columns)

@@ -22,6 +22,7 @@ use Rattle.flow_types.specs.declared.node.Node.{Node}
 use Rattle.flow_types.specs.Flows.{root_in, has_fixed_root}
 use Rattle.kind_laws.specs.Runs.{at_root}
 use Rattle.load_runner.specs.declared.fault.LoadFault.{LoadFault}
+use Rattle.load_runner.specs.declared.fault.SourceFault.{SourceFault}
 use Rattle.load_runner.specs.declared.fault.LoadFault.TheVariants as fault
 use Rattle.load_runner.specs.declared.report.Report.{Report}
 use Rattle.load_runner.specs.Faults.{IsTableFault}
@@ -110,7 +111,7 @@ module _ (agree : VerdictsAgree) (once : HoldsOnce) (job : Job) (depot : DepotSt
       subst (Does job depot depot disk now (Err (Fault fault.WorkflowDiffers))) (found_once agree once disk.file job.text (columns_of job) other state (differs refl) found)
       (record { unread = refl; spares = spares; answers = inl refl })
   refused_does failed (Fault fault.Depot) no_table differs cause state found = absurd cause
-  refused_does failed (Fault fault.NotBuilt) no_table differs cause state found = absurd cause
+  refused_does failed (Fault (fault.Source f)) no_table differs cause state found = absurd cause
   refused_does failed (Fault fault.Full) no_table differs cause state found = absurd cause
 
   -- where nothing was written, all that a load promises of images holds
@@ -136,7 +137,7 @@ module _ (agree : VerdictsAgree) (once : HoldsOnce) (job : Job) (depot : DepotSt
   refused_rests (Fault (fault.NotATable place)) cause = tt
   refused_rests (Fault fault.WorkflowDiffers) cause = tt
   refused_rests (Fault fault.Depot) cause = absurd cause
-  refused_rests (Fault fault.NotBuilt) cause = absurd cause
+  refused_rests (Fault (fault.Source f)) cause = absurd cause
   refused_rests (Fault fault.Full) cause = absurd cause
 
   -- a load that stopped while the table was read
@@ -262,7 +263,7 @@ module _ (agree : VerdictsAgree) (once : HoldsOnce) (law : BlocksHold) (cuts : C
   leaves some (Ok report) root last done settled full_settled fills stops unwritten table flow = complete some report root last settled done
   leaves some (Err Memory) root last done settled full_settled fills stops unwritten table flow = unwritten tt
   leaves some (Err (Fault fault.Depot)) root last done settled full_settled fills stops unwritten table flow = unwritten tt
-  leaves some (Err (Fault fault.NotBuilt)) root last done settled full_settled fills stops unwritten table flow = unwritten tt
+  leaves some (Err (Fault (fault.Source f))) root last done settled full_settled fills stops unwritten table flow = unwritten tt
   leaves some (Err (Fault fault.Full)) root last done settled full_settled fills stops unwritten table flow = full (full_settled refl) (fills refl)
   leaves some (Err (Fault fault.Disk)) root last done settled full_settled fills stops unwritten table flow = inr (stopped_adding (stops refl))
   leaves some (Err (Fault (fault.NotATable place))) root last done settled full_settled fills stops unwritten table flow = absurd (table place refl)
@@ -315,12 +316,12 @@ module _ (agree : VerdictsAgree) (once : HoldsOnce) (law : BlocksHold) (cuts : C
 
 -- what the answer of a load that went on rests on
 pub rests_of : (job : Job) (depot still : DepotState) (old mid new : DiskState) (answer : Answer) → old.faults ≤ mid.faults
-    → (answer ≡ Err (Fault fault.NotBuilt) → (files : Files) → depot.files ≡ Some files → contents_in job.flow.nodes files ≡ None)
+    → ((f : SourceFault) → answer ≡ Err (Fault (fault.Source f)) → (files : Files) → depot.files ≡ Some files → contents_in job.flow.nodes files ≡ Err f)
     → IfFault answer (IsCaused (Rose depot.faults still.faults) (Rose mid.faults new.faults)) → RestsOn job depot still old new answer
 rests_of job depot still old mid new (Ok report) later none cause = tt
 rests_of job depot still old mid new (Err Memory) later none cause = tt
 rests_of job depot still old mid new (Err (Fault fault.Depot)) later none cause = cause
-rests_of job depot still old mid new (Err (Fault fault.NotBuilt)) later none cause = none refl
+rests_of job depot still old mid new (Err (Fault (fault.Source f))) later none cause = none f refl
 rests_of job depot still old mid new (Err (Fault fault.Full)) later none cause = tt
 rests_of job depot still old mid new (Err (Fault fault.Disk)) later none cause = rose_later old.faults mid.faults new.faults later cause
 rests_of job depot still old mid new (Err (Fault (fault.NotATable place))) later none cause = tt

@@ -1,5 +1,5 @@
 -- What a flow means over files, and the runs over their contents.
-use Rattle.std.proofs.Common.{◌≡◌, ◌≤◌, ◌+◌, ◌-◌, ◌==◌, ◌∙◌, ℕ, zero, suc, min, List, [], ◌∷◌, ◌++◌, length, map, drop, cond, All, Bool, true, false, ◌&&◌, IsTrue, Option, Some, None, option_map, refl, sym, ap, subst, eq-eqb, inl, inr, arith}
+use Rattle.std.proofs.Common.{◌≡◌, ◌≤◌, ◌+◌, ◌-◌, ◌==◌, ◌∙◌, ℕ, zero, suc, min, List, [], ◌∷◌, ◌++◌, length, map, drop, cond, All, Bool, true, false, ◌&&◌, IsTrue, Option, Some, None, Result, Ok, option_map, refl, sym, ap, subst, eq-eqb, inl, inr, arith}
 use Rattle.std.specs.List.{filter, list_all}
 use Rattle.std.proofs.Math.Dec.{eqb-suc-zero}
 use Rattle.std.proofs.lemmas.Bool.{cases_lt}
@@ -21,6 +21,7 @@ use Rattle.kind_laws.specs.Promises.{IsListed, ListsTruth, IsListing}
 use Rattle.kind_laws.specs.Runs.{Yield, at_root}
 use Rattle.load_runner.specs.declared.report.EdgeCount.{EdgeCount}
 use Rattle.load_runner.specs.declared.report.Report.{Report}
+use Rattle.load_runner.specs.declared.fault.SourceFault.{SourceFault}
 use Rattle.load_runner.specs.Jobs.{IsMade}
 use Rattle.load_runner.specs.Reports.{count_on, counts_of, report_of, skip_counts, skip_report}
 use Rattle.load_runner.specs.Sources.{contents_in, KeepsTruth, IsMeaning}
@@ -79,6 +80,12 @@ all_pass p (x ∷ xs) all = All-cons (λ y. p y ≡ true) x xs (and_left (p x) (
 abbrev pub LastIsRoot : Type 0
 LastIsRoot = (flow : TypedFlow) (is : IsFlow flow) → root_in flow.nodes ≡ Some (root_of is.tree)
 
+abbrev Contents : List (List Tuple) → Result (List (List Tuple)) SourceFault
+Contents found = Ok found
+
+pub same_contents : (one two : List (List Tuple)) → Contents one ≡ Contents two → one ≡ two
+same_contents one two is = cc
+
 module _ (flow : TypedFlow) (is : IsFlow flow) where
   tree_is : (t : Tree Node) → tree_of flow.nodes ≡ Some t → is.tree ≡ t
   tree_is t made = same_Some _ _ (sym is.made ∙ made)
@@ -96,7 +103,7 @@ module _ (flow : TypedFlow) (is : IsFlow flow) where
   pub made_is_meaning : has_fixed_root flow.nodes ≡ true → (files : Files) (told : Option Files) → told ≡ Some files → (whole made : List Tuple)
       → IsMeaning flow files whole → IsMade flow told made → made ≡ whole
   made_is_meaning fixed files told are whole made means makes =
-      let contents : makes.contents ≡ means.kept.contents = same_Some _ _ (sym (makes.are files are) ∙ means.kept.are) in
+      let contents : makes.contents ≡ means.kept.contents = same_contents makes.contents means.kept.contents (sym (makes.are files are) ∙ means.kept.are) in
       let own : list_of (by_number means.kept.contents) is.tree ≡ made = whole_is (by_number means.kept.contents) made (rw contents at makes.makes) in
       sym own ∙ listing_same fixed means.truth (by_number means.kept.contents) means.kept.listed ∙ whole_is means.truth whole means.makes
 

@@ -1,5 +1,5 @@
 -- What is to be loaded, and what a load answers.
-use Rattle.std.specs.Prelude.{◌≡◌, ℕ, List, drop, Some, Option, Result}
+use Rattle.std.specs.Prelude.{◌≡◌, ℕ, List, drop, Some, Option, Result, Ok}
 use Rattle.outside.specs.Words.{Files}
 use Rattle.tuple_schema.specs.declared.schema.Column.{Column}
 use Rattle.tuple_schema.specs.declared.memory.Stop.{Stop}
@@ -36,7 +36,7 @@ run_blocks job run = cut job.batch (at_root run)
 -- where the files are told, the flow makes these rows of their contents
 pub record IsMade (flow : TypedFlow) (told : Option Files) (whole : List Tuple) : Type 0 where
   pub contents : List (List Tuple)
-  pub are : (files : Files) → told ≡ Some files → contents_in flow.nodes files ≡ Some contents
+  pub are : (files : Files) → told ≡ Some files → contents_in flow.nodes files ≡ Ok contents
   pub makes : whole_of flow.nodes (by_number contents) ≡ Some whole
 
 -- the blocks of the rows behind as many as are committed

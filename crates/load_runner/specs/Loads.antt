@@ -67,7 +67,7 @@ abbrev pub Leaves : Job → Option Files → List (List Value) → List Stored �
 Leaves job told committed olds gate disk now (Ok report) = IsComplete job told committed olds gate now report
 Leaves job told committed olds gate disk now (Err Memory) = Spares disk now
 Leaves job told committed olds gate disk now (Err (Fault fault.Depot)) = Spares disk now
-Leaves job told committed olds gate disk now (Err (Fault fault.NotBuilt)) = Spares disk now
+Leaves job told committed olds gate disk now (Err (Fault (fault.Source f))) = Spares disk now
 Leaves job told committed olds gate disk now (Err (Fault fault.Full)) = IsFull job told committed olds gate now
 Leaves job told committed olds gate disk now (Err (Fault fault.Disk)) = Spares disk now
     ⊎ StoppedAdding job told committed olds disk now
@@ -127,13 +127,13 @@ Does job depot still disk now answer other = Stays refused_other depot still dis
 -- The promise.
 
 -- what each answer rests on, be the disk honest or not: a device is blamed only where it failed in this call, and a
--- source only where the files have no contents
+-- source only where that is the first fault of the contents of the files
 abbrev pub RestsOn : Job → DepotState → DepotState → DiskState → DiskState → Answer → Type 0
 RestsOn job depot still disk now (Ok report) = ⊤
 RestsOn job depot still disk now (Err Memory) = ⊤
 RestsOn job depot still disk now (Err (Fault fault.Depot)) = Rose depot.faults still.faults
-RestsOn job depot still disk now (Err (Fault fault.NotBuilt)) = (files : Files) → depot.files ≡ Some files
-    → contents_in job.flow.nodes files ≡ None
+RestsOn job depot still disk now (Err (Fault (fault.Source f))) = (files : Files) → depot.files ≡ Some files
+    → contents_in job.flow.nodes files ≡ Err f
 RestsOn job depot still disk now (Err (Fault fault.Full)) = ⊤
 RestsOn job depot still disk now (Err (Fault fault.Disk)) = Rose disk.faults now.faults
 RestsOn job depot still disk now (Err (Fault (fault.NotATable place))) = ⊤

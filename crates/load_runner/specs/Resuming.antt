@@ -25,7 +25,7 @@ IsUnwritten (Err (Fault fault.Depot)) = ⊤
 IsUnwritten (Err (Fault fault.Disk)) = ⊥
 IsUnwritten (Err (Fault (fault.NotATable place))) = ⊤
 IsUnwritten (Err (Fault fault.WorkflowDiffers)) = ⊤
-IsUnwritten (Err (Fault fault.NotBuilt)) = ⊤
+IsUnwritten (Err (Fault (fault.Source f))) = ⊤
 IsUnwritten (Err (Fault fault.Full)) = ⊥
 
 -- a device failed in this call, or there is a cause in the table or the source
@@ -34,7 +34,7 @@ IsCaused depot disk fault.Depot = depot
 IsCaused depot disk fault.Disk = disk
 IsCaused depot disk (fault.NotATable place) = ⊤
 IsCaused depot disk fault.WorkflowDiffers = ⊤
-IsCaused depot disk fault.NotBuilt = ⊤
+IsCaused depot disk (fault.Source f) = ⊤
 IsCaused depot disk fault.Full = ⊤
 
 -- the table is ended, and all that was missing behind the rows that were found stands in it, as the report says

@@ -1,11 +1,19 @@
 -- The contents of the files of a folder, and what a flow means over them.
-use Rattle.std.specs.Prelude.{◌≡◌, ℕ, ◌==◌, List, [], ◌∷◌, length, map, find, Option, Some, None, option_map, option_and_then}
+use Rattle.std.specs.Prelude.{◌≡◌, ℕ, ◌==◌, List, [], ◌∷◌, length, map, find, Option, Some, None, Result, Ok, Err}
 use Rattle.std.specs.List.{range_with_len}
 use Rattle.tuple_schema.specs.declared.schema.Column.{Column}
 use Rattle.list_algebra.specs.Bags.{Tuple}
 use Rattle.outside.specs.Depot.{Files, file_at}
-use Rattle.outside.specs.Whole.{Found, missing, too_large, bytes, found_in}
-use Rattle.extractors.specs.Content.{csv_content}
+use Rattle.outside.specs.Whole.{found_in}
+use Rattle.tuple_schema.specs.Stops.{◌>>=◌}
+use Rattle.extractors.specs.declared.fault.CsvFault.{CsvFault}
+use Rattle.extractors.specs.declared.fault.CsvFault.TheVariants as csv
+use Rattle.extractors.specs.Opening.{source_content}
+use Rattle.flow_types.specs.declared.fault.NodeId.{NodeId}
+use Rattle.load_runner.specs.declared.fault.LoadFault.{LoadFault}
+use Rattle.load_runner.specs.declared.fault.LoadFault.TheVariants as load
+use Rattle.load_runner.specs.declared.fault.SourceFault.{SourceFault}
+use Rattle.load_runner.specs.declared.fault.SourceWhat.TheVariants as what
 use Rattle.flow_types.specs.declared.node.Kind.{Kind}
 use Rattle.flow_types.specs.declared.node.Kind.TheVariants as kind
 use Rattle.flow_types.specs.declared.node.Node.{Node}
@@ -13,46 +21,57 @@ use Rattle.flow_types.specs.Flows.{TypedFlow, number_of, root_in}
 use Rattle.kind_laws.specs.Wholes.{Lists, by_number, whole_of}
 use Rattle.kind_laws.specs.Promises.{KeepsPromises, IsListing}
 
--- the content of what is found of a file, where it has one
-abbrev pub content_in : List Column → Found → Option (List Tuple)
-content_in columns missing = None
-content_in columns (too_large size) = None
-content_in columns (bytes file) = csv_content columns file
+-- the fault of a source
+abbrev pub source_fault : NodeId → CsvFault → SourceFault
+source_fault id fault = record { source = id; what = what.Csv fault }
 
--- the content of a source's file, one of at most 268,435,456 bytes; any other node has the empty one
-abbrev pub content_at : Files → List Column → Kind → Option (List Tuple)
-content_at files columns (kind.Source source) = content_in columns (found_in 268435456 (file_at files source.file))
-content_at files columns (kind.Select test) = Some []
-content_at files columns (kind.Project from) = Some []
+-- its content, or its fault
+abbrev pub of_source : NodeId → Result (List Tuple) CsvFault → Result (List Tuple) SourceFault
+of_source id (Ok rows) = Ok rows
+of_source id (Err fault) = Err (source_fault id fault)
+
+-- the content of a source's file, one of at most 268,435,456 bytes, or its first fault; any other node has the empty one
+abbrev pub content_at : Files → Node → Kind → Result (List Tuple) SourceFault
+content_at files n (kind.Source source) = of_source n.id
+    (source_content source.any_header n.schema (found_in 268435456 (file_at files source.file)))
+content_at files n (kind.Select test) = Ok []
+content_at files n (kind.Project from) = Ok []
 
 -- the same of a node that may be there
-abbrev pub content_of : Files → Option Node → Option (List Tuple)
-content_of files None = Some []
-content_of files (Some n) = content_at files n.schema n.kind
+abbrev pub content_of : Files → Option Node → Result (List Tuple) SourceFault
+content_of files None = Ok []
+content_of files (Some n) = content_at files n n.kind
 
 -- the node of a number
 abbrev pub numbered : List Node → ℕ → Option Node
 numbered nodes number = find (λ n. number_of n == number) nodes
 
--- a list before others, where there are both
-abbrev pub before_others : Option (List (List Tuple)) → List Tuple → Option (List (List Tuple))
-before_others None rows = None
-before_others (Some others) rows = Some (rows ∷ others)
+-- all of these contents, or the first fault
+abbrev pub all_of : List (Result (List Tuple) SourceFault) → Result (List (List Tuple)) SourceFault
+all_of [] = Ok []
+all_of (first ∷ others) = do
+  rows ← first
+  more ← all_of others
+  Ok (rows ∷ more)
 
--- all of these lists, or none
-abbrev pub all_of : List (Option (List Tuple)) → Option (List (List Tuple))
-all_of [] = Some []
-all_of (first ∷ others) = option_and_then (before_others (all_of others)) first
-
--- the contents by number, so that those of the sources come first, in the order of the file, where each has one
-abbrev pub contents_in : List Node → Files → Option (List (List Tuple))
+-- the contents by number, so that those of the sources come first, in the order of the file; or the first fault
+abbrev pub contents_in : List Node → Files → Result (List (List Tuple)) SourceFault
 contents_in nodes files = all_of (map (λ number. content_of files (numbered nodes number))
     (range_with_len 0 (length nodes)))
+
+-- the fault of a load that a fault of a source's file is
+abbrev pub of_csv : NodeId → CsvFault → LoadFault
+of_csv id csv.Depot = load.Depot
+of_csv id csv.Missing = load.Source (source_fault id csv.Missing)
+of_csv id (csv.TooLarge size) = load.Source (source_fault id (csv.TooLarge size))
+of_csv id (csv.BadHeader at) = load.Source (source_fault id (csv.BadHeader at))
+of_csv id (csv.BadCsv row) = load.Source (source_fault id (csv.BadCsv row))
+of_csv id (csv.BadRow row column cause) = load.Source (source_fault id (csv.BadRow row column cause))
 
 -- the files keep a truth: their contents list it, and it keeps what the sources promise
 pub record KeepsTruth (files : Files) (nodes : List Node) (truth : Lists) : Type 0 where
   pub contents : List (List Tuple)
-  pub are : contents_in nodes files ≡ Some contents
+  pub are : contents_in nodes files ≡ Ok contents
   pub listed : IsListing nodes truth (by_number contents)
   pub promises : KeepsPromises nodes truth
 

@@ -1,5 +1,5 @@
 -- Runs in which the edges leave out what the committed rows make needless.
-use Rattle.std.specs.Prelude.{◌≡◌, ℕ, ◌==◌, List, length, drop, Bool, false, Option, Some, None, if◌then◌else◌}
+use Rattle.std.specs.Prelude.{◌≡◌, ℕ, ◌==◌, List, length, drop, Bool, false, Option, Some, None, Ok, if◌then◌else◌}
 use Rattle.list_algebra.specs.Bags.{Tuple}
 use Rattle.list_algebra.specs.Trees.{Tree}
 use Rattle.outside.specs.Depot.{Files}
@@ -47,7 +47,7 @@ pub record IsRest (flow : TypedFlow) (truth : Lists) (committed rest : List Tupl
 -- a trimmed run of the flow over the contents of the files, where these are told
 pub record Resumes (flow : TypedFlow) (told : Option Files) (committed : List Tuple) (run : Tree Yield) : Type 0 where
   pub contents : List (List Tuple)
-  pub are : (files : Files) → told ≡ Some files → contents_in flow.nodes files ≡ Some contents
+  pub are : (files : Files) → told ≡ Some files → contents_in flow.nodes files ≡ Ok contents
   pub tree : Tree Node
   pub made : tree_of flow.nodes ≡ Some tree
   pub trimmed : IsTrimmedRun flow committed (by_number contents) tree run

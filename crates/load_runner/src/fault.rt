@@ -1,11 +1,27 @@
 // Why a load stopped.
 ghost use Rattle.std.specs.Prelude.{◌≡◌};
+ghost use Rattle.load_runner.specs.Sources.{of_csv};
 ghost use Rattle.load_runner.specs.Starts.{of_table, stop_of_table};
 
 use commit_disk::TableFault;
+use extractors::CsvFault;
+use flow_types::NodeId;
 use table_write::WriteFault;
 use thiserror::Error;
 use tuple_schema::Stop;
+
+/// The first source in the order of the flow file that has no content, and why.
+#[derive(Clone, Copy, Debug, PartialEq, Eq)]
+pub struct SourceFault {
+    pub source: NodeId,
+    pub what: SourceWhat,
+}
+
+/// Why a source has no content.
+#[derive(Clone, Copy, Debug, PartialEq, Eq)]
+pub enum SourceWhat {
+    Csv(CsvFault),
+}
 
 /// Why a load stopped. Want of memory is none of these.
 #[derive(Clone, Copy, Debug, PartialEq, Eq, Error)]
@@ -22,9 +38,9 @@ pub enum LoadFault {
     /// The file is a table of another flow text. Nothing was changed.
     #[error("the table was made by another workflow")]
     WorkflowDiffers,
-    /// A source's file is missing, too long, or has no content. Nothing was changed.
-    #[error("the source file is not built yet")]
-    NotBuilt,
+    /// A source has no content. Nothing was changed.
+    #[error("a source has no content")]
+    Source(SourceFault),
     /// The next block would end past the longest file. The blocks that have room are committed.
     #[error("the table is full")]
     Full,
@@ -39,6 +55,23 @@ pub fn of_table(stop: Stop<TableFault>) -> Stop<LoadFault>
         Stop::Fault(TableFault::Disk) => Stop::Fault(LoadFault::Disk),
         Stop::Fault(TableFault::NotATable { at }) => Stop::Fault(LoadFault::NotATable { at }),
         Stop::Fault(TableFault::WorkflowDiffers) => Stop::Fault(LoadFault::WorkflowDiffers),
+    }
+}
+
+/// The fault of a load that a fault of a source's file is: where the depot failed, the source isn't blamed.
+pub fn of_csv(source: NodeId, fault: CsvFault) -> LoadFault
+    ensures { result ≡ of_csv source fault }
+{
+    match fault {
+        CsvFault::Depot => LoadFault::Depot,
+        CsvFault::Missing
+        | CsvFault::TooLarge { .. }
+        | CsvFault::BadHeader { .. }
+        | CsvFault::BadCsv { .. }
+        | CsvFault::BadRow { .. } => LoadFault::Source(SourceFault {
+            source,
+            what: SourceWhat::Csv(fault),
+        }),
     }
 }
 

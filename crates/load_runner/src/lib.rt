@@ -21,7 +21,7 @@ mod resume;
 mod running;
 mod sources;
 
-pub use fault::LoadFault;
+pub use fault::{LoadFault, SourceFault, SourceWhat};
 pub use laws::any_loads;
 pub use report::{EdgeCount, Report, ReportEdges};
 pub use running::load;

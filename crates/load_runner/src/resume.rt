@@ -11,6 +11,7 @@ ghost use Rattle.row_codec.specs.Decoding.{IsRowOf};
 ghost use Rattle.table_write.specs.Cut.{together};
 ghost use Rattle.table_write.specs.Adds.{with_blocks, AllHaveRoom, IsFullBehind};
 ghost use Rattle.load_runner.specs.declared.fault.LoadFault.TheVariants as fault;
+ghost use Rattle.load_runner.specs.declared.fault.SourceFault.{SourceFault};
 ghost use Rattle.load_runner.specs.Sources.{contents_in, root_columns};
 ghost use Rattle.load_runner.specs.Asked.{asked_bytes};
 ghost use Rattle.load_runner.specs.Safe.{IsGrown, IsStopped};
@@ -52,8 +53,8 @@ pub fn resume<D: Depot, K: Disk>(
     ensures done { IfOk result (λ report. IsTrue (K.state disk.old).honest
         → AllAdded flow.now (D.state depot.old).files text.now batch found (K.state disk.old).file
         (K.state disk.new).file report) }
-    ensures none { result ≡ Err (stop.Fault fault.NotBuilt) → (files : Files) → (D.state depot.old).files ≡ Some files
-        → contents_in flow.now.nodes files ≡ None }
+    ensures refused { (f : SourceFault) → result ≡ Err (stop.Fault (fault.Source f))
+        → (files : Files) → (D.state depot.old).files ≡ Some files → contents_in flow.now.nodes files ≡ Err f }
     ensures full { result ≡ Err (stop.Fault fault.Full) → (whole : List (List Value))
         × IsMade flow.now (D.state depot.old).files whole
         × ((count : ℕ) × IsFullBehind (gate_of found text.now) (missing_blocks batch (count_of found) whole) count

@@ -5,14 +5,14 @@ use Rattle.flow_types.specs.Flows.{has_fixed_root}
 use Rattle.kind_laws.specs.Wholes.{by_number}
 use Rattle.kind_laws.specs.Promises.{IsListing}
 use Rattle.load_runner.specs.Histories.{nothing}
-use Rattle.load_runner.proofs.Meanings.{rest_is}
+use Rattle.load_runner.proofs.Meanings.{rest_is, same_contents}
 use Rattle.load_runner.proofs.Standings.{all_stand, nothing_stands, all_missing, all_of_stands}
 use Rattle.load_runner.proofs.Steps.{is_step}
 use Rattle.load_runner.proofs.laws.any_loads.Goals as goal
 
 pub returns-clause-rest : goal.returns-clause-rest
 returns-clause-rest c = λ flow files truth committed run keeps resumes.
-    let same : keeps.contents ≡ resumes.contents = same_Some _ _ (sym keeps.are ∙ resumes.are files refl) in
+    let same : keeps.contents ≡ resumes.contents = same_contents _ _ (sym keeps.are ∙ resumes.are files refl) in
     record {
       tree = resumes.tree;
       made = resumes.made;

@@ -80,7 +80,7 @@ returns g c =
             (λ full. c.resume.ensures.full_settled full on settled) c.resume.ensures.full
             (λ failed. c.resume.ensures.stops failed on settled _ (is_at agree once law job depot.files c.in-Ok.found old mid new (ran g c is)))
             (λ unwritten. subst (λ disk. Spares old (g.K.Disk.state disk)) (sym (c.resume.ensures.untouched unwritten)) c.begin.ensures.spares) c.resume.ensures.table c.resume.ensures.same_flow;
-        rests = rests_of job depot still old mid new c.resume.result c.begin.ensures.elapses.faults c.resume.ensures.none c.resume.ensures.causes;
+        rests = rests_of job depot still old mid new c.resume.result c.begin.ensures.elapses.faults c.resume.ensures.refused c.resume.ensures.causes;
         served = c.resume.ensures.served;
       };
     }

@@ -1,4 +1,4 @@
-use Rattle.std.proofs.Common.{◌≡◌, ◌<◌, ◌≤◌, ◌+◌, ℕ, length, map, get_or, [], Some}
+use Rattle.std.proofs.Common.{◌≡◌, ◌<◌, ◌≤◌, ◌+◌, ℕ, length, map, get_or, [], Some, Ok}
 use Rattle.std.specs.List.{range_with_len, sum_by}
 use Rattle.outside.specs.Words.{Files, Consults}
 use Rattle.flow_types.specs.declared.node.Node.{Node}
@@ -11,7 +11,7 @@ use Rattle.load_runner.proofs.sources.source_lists.Given as goal
 abbrev pub invariant-loop-number : goal.invariant-loop-number
 invariant-loop-number g l = record {
   contents : (files : Files) → (g.D.Depot.state l.initial.depot).files ≡ Some files
-      → all_of (map (λ number. content_of files (numbered l.flow.nodes number)) (range_with_len 0 l.number)) ≡ Some l.lists.items;
+      → all_of (map (λ number. content_of files (numbered l.flow.nodes number)) (range_with_len 0 l.number)) ≡ Ok l.lists.items;
   fit : (k : ℕ) (n : Node) → k < l.number → numbered l.flow.nodes k ≡ Some n → OwnFit n.kind n.schema (get_or l.lists.items k []);
   len : length l.lists.items ≡ l.number;
   served : (files : Files) → (g.D.Depot.state l.initial.depot).files ≡ Some files
