@@ -14,14 +14,15 @@ use Rattle.flow_types.specs.declared.node.Kind.TheVariants as kind
 use Rattle.flow_types.specs.declared.node.Node.{Node}
 use Rattle.flow_types.specs.Flows.{TypedFlow, number_of, count_inputs, tree_of, root_in, ids_of, node_of, columns_of, keeps_order, has_fixed_root}
 use Rattle.flow_types.specs.Columns.{IsInt}
-use Rattle.flow_types.specs.Linked.{IsOver, IsLinked, IsLinkedOver, IsTreeOf, AreApart, IsFlow}
+use Rattle.flow_types.specs.Linked.{IsOver, IsLinked, IsLinkedOver, AreApart, IsFlow}
 use Rattle.flow_types.specs.Graph.{graph_of, ComeOnce}
-use Rattle.flow_types.specs.Typed.{typed, typed_tree, nodes_in}
+use Rattle.flow_types.specs.Typed.{typed, typed_tree}
+use Rattle.flow_types.specs.Typing.{HasTree}
 use Rattle.flow_types.proofs.Made.{bound, tree_numbers, seen_in_order}
-use Rattle.flow_types.proofs.TypedTrees.{read, root_in-tree, tree_ints}
+use Rattle.flow_types.proofs.TypedTrees.{root_in-tree}
 
 -- a node has the inputs that the trees below it have as roots
-abbrev HasInputs : Node → Trees Node → Type 0
+abbrev pub HasInputs : Node → Trees Node → Type 0
 HasInputs n trees = n.inputs ≡ ids_of (roots_of trees)
 
 mutual
@@ -37,14 +38,14 @@ mutual
 
 mutual
   -- a linked node does
-  linked_has : (t : Tree Node) → EachNode IsLinkedOver t → EachNode HasInputs t
+  pub linked_has : (t : Tree Node) → EachNode IsLinkedOver t → EachNode HasInputs t
   linked_has (node n trees) linked = (linked.0.inputs, all_linked_has trees linked.1)
 
   all_linked_has : (trees : Trees Node) → EachNodeBelow IsLinkedOver trees → EachNodeBelow HasInputs trees
   all_linked_has no_trees linked = tt
   all_linked_has (tree first rest) linked = (linked_has first linked.0, all_linked_has rest linked.1)
 
-some_in : (t : Tree Node) → 1 ≤ length (in_order t)
+pub some_in : (t : Tree Node) → 1 ≤ length (in_order t)
 some_in (node n trees) = let all = length-append (all_in_order trees) (n ∷ []) in omega arith
 
 -- so the nodes of a tree make the tree
@@ -74,19 +75,24 @@ numbers_count q (n ∷ nodes) =
     sum_by-cons (λ p. cond (p == q) 1 0) (number_of n) (map number_of nodes) ∙ ap (λ count. cond (number_of n == q) 1 0 + count) (numbers_count q nodes)
     ∙ sym (sum_by-cons (λ m. cond (number_of m == q) 1 0) n nodes)
 
+pub typed_is : (raw : RawFlow) (places : Tree ℕ) (nodes : List Node) (root : ℕ) → graph_of raw ≡ Ok places → HasTree raw places [] nodes root
+    → typed raw ≡ Ok (record { nodes = nodes; key = None })
+unfolding typed
+typed_is raw places nodes root graph has = rw (graph, has.typed, has.all) refl
+
 -- the nodes that were typed of a tree whose places come once are a flow
-pub flow_of : (raw : RawFlow) (places : Tree ℕ) (nodes : List Node) → nodes_in (typed_tree raw places) ≡ Ok nodes → IsTreeOf nodes
+pub flow_of : (raw : RawFlow) (places : Tree ℕ) (nodes : List Node) (root : ℕ) → HasTree raw places [] nodes root
     → ComeOnce (in_order places) → length (in_order places) ≤ 80 → IsFlow (record { nodes = nodes; key = None })
-flow_of raw places nodes typed is once few =
-    let t = read (typed_tree raw places) nodes typed in
+flow_of raw places nodes root has once few =
+    let all : in_order has.tree ≡ nodes = sym has.all in
     let numbers : map number_of nodes ≡ in_order places =
-    ap (map number_of) (sym t.2) ∙ sym (seen_in_order number_of t.0) ∙ ap in_order (tree_numbers raw places t.0 t.1).0 in
+    ap (map number_of) (sym all) ∙ sym (seen_in_order number_of has.tree) ∙ ap in_order (tree_numbers raw places has.tree has.typed).0 in
     let count : length (map number_of nodes) ≡ length nodes = rw length-map refl in
     record {
-      tree = is.tree;
-      all = is.all;
-      made = ap tree_of (sym is.all) ∙ tree_made is.tree (linked_has is.tree is.linked);
-      linked = is.linked;
+      tree = has.tree;
+      all = all;
+      made = ap tree_of (sym all) ∙ tree_made has.tree (linked_has has.tree has.linked);
+      linked = has.linked;
       apart = λ q. rw (← numbers_count q nodes, numbers) (once q);
       few = rw (← count, numbers) few;
     }
@@ -97,8 +103,11 @@ alone_in flow is = ap (trees_in count_inputs) (sym is.all) ∙ trees_in-tree cou
 pub root_at : (flow : TypedFlow) (is : IsFlow flow) → root_in flow.nodes ≡ Some (root_of is.tree)
 root_at flow is = ap root_in (sym is.all) ∙ root_in-tree is.tree
 
+root_ints_in : (t : Tree Node) → EachNode IsLinkedOver t → All IsInt (root_of t).schema
+root_ints_in (node n trees) linked = linked.0.ints
+
 pub root_ints : (flow : TypedFlow) → IsFlow flow → (n : Node) → root_in flow.nodes ≡ Some n → All IsInt n.schema
-root_ints flow is n at = subst (λ (m : Node). All IsInt m.schema) (same_Some _ _ (sym (root_at flow is) ∙ at)) (tree_ints is.tree is.linked)
+root_ints flow is n at = subst (λ (m : Node). All IsInt m.schema) (same_Some _ _ (sym (root_at flow is) ∙ at)) (root_ints_in is.tree is.linked)
 
 module _ (P : Node → Type 0) (of : (n : Node) (below : List Node) → IsLinked n below → P n) where
   mutual

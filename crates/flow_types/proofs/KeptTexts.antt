@@ -15,7 +15,7 @@ use Rattle.flow_types.specs.Built.{is_built_source, is_built}
 use Rattle.flow_types.specs.NodeTexts.{NodeText, source, select, project, text_of, text_at}
 use Rattle.flow_types.specs.Linked.{KeepsText}
 
-all_pass : {X : Type 0} (p : X → Bool) (xs : List X) (k : ℕ) (d : X) → list_all p xs ≡ true → k < length xs → p (get_or xs k d) ≡ true
+pub all_pass : {X : Type 0} (p : X → Bool) (xs : List X) (k : ℕ) (d : X) → list_all p xs ≡ true → k < length xs → p (get_or xs k d) ≡ true
 all_pass p xs k d all h =
     elim (cases_Bool (p (get_or xs k d))) [
       | inl passes ↦ passes

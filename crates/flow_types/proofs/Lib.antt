@@ -4,14 +4,15 @@ pub mod Places
 pub mod Uses
 pub mod Lookups
 pub mod Reached
-pub mod OneInput
+pub mod Needs
 pub mod Links
 pub mod TypedTrees
 pub mod Columns
 pub mod NodeNames
 pub mod Made
 pub mod Once
+pub mod Whole
 pub mod FlowTrees
-pub mod Linking
 pub mod Ranks
+pub mod Below
 pub mod KeptTexts

@@ -1,5 +1,5 @@
 -- In the tree of a graph in which no node is an input twice, no node comes twice.
-use Rattle.std.proofs.Common.{◌≡◌, ℕ, zero, suc, ◌+◌, ◌-◌, ◌<◌, ◌≤◌, ◌==◌, List, [], ◌∷◌, ◌++◌, length, map, get_or, set, replicate, count_by, cond, All, IfSome, nat_lt, Option, Some, None, option_to_list, option_map, Ok, Err, Bool, true, false, eq-eqb, refl, ap, sym, ◌∙◌, inl, inr, append-nil, arith}
+use Rattle.std.proofs.Common.{◌≡◌, ℕ, zero, suc, ◌+◌, ◌-◌, ◌<◌, ◌≤◌, ◌==◌, List, [], ◌∷◌, ◌++◌, length, map, get_or, set, replicate, count_by, cond, All, nat_lt, Option, Some, None, option_map, Ok, Err, Bool, true, false, eq-eqb, refl, ap, sym, ◌∙◌, inl, inr, append-nil, arith}
 use Rattle.std.specs.List.{concat, sum_by}
 use Rattle.std.proofs.lemmas.List.{get_or-set_other, get_or-replicate}
 use Rattle.std.proofs.lemmas.List.Sums.{sum_by-append, sum_by-cons}
@@ -11,7 +11,7 @@ use Rattle.list_algebra.specs.Trees.{Tree, node, trees_of, in_order, all_in_orde
 use Rattle.flow_types.specs.Trees.{tree_below}
 use Rattle.flow_types.specs.declared.fault.SchemaCause.TheVariants as cause
 use Rattle.flow_types.specs.Names.{least, refused}
-use Rattle.flow_types.specs.Graph.{ComeOnce, links_in, uses_of, used_once, fault_at, AreWithin, flow_tree}
+use Rattle.flow_types.specs.Graph.{ComeOnce, uses_of, used_once, fault_at, AreWithin, flow_tree}
 use Rattle.flow_types.proofs.Columns.{least_fails}
 
 -- how often the place comes
@@ -180,61 +180,54 @@ never n q (p ∷ places) below past =
     let other = times-other q p (λ same. let h : q < n = rw (← same) here in omega arith) in
     omega arith
 
-linked_below : (n : ℕ) (links : List (Option ℕ)) → All (λ input. IfSome input (λ place. place < n)) links → Below n (concat (links_in links))
-linked_below n [] within = All-nil (λ p. p < n)
-linked_below n (None ∷ links) within = linked_below n links (All-tail (λ input. IfSome input (λ place. place < n)) None links within)
-linked_below n (Some p ∷ links) within =
-    All-cons (λ p. p < n) p (concat (links_in links)) (All-head (λ input. IfSome input (λ place. place < n)) (Some p) links within)
-    (linked_below n links (All-tail (λ input. IfSome input (λ place. place < n)) (Some p) links within))
+within_concat : (n : ℕ) (links : List (List ℕ)) → All (λ inputs. Below n inputs) links → Below n (concat links)
+within_concat n [] within = All-nil (λ p. p < n)
+within_concat n (inputs ∷ links) within =
+    All-append (λ p. p < n) inputs (concat links) (All-head (λ places. Below n places) inputs links within)
+    (within_concat n links (All-tail (λ places. Below n places) inputs links within))
 
 not_again : (n : ℕ) (test : ℕ → Bool) (o : Option ℕ) → least n test ≡ o → refused (option_map (λ place. fault_at place cause.UsedTwice) (least n test)) ≡ Ok tt → least n test ≡ None
 not_again n test None is fine = is
 not_again n test (Some k) is fine = let wrong = rw is at fine in absurd (cc)
 
 -- what isn't used twice is used once at most
-used_are_once : (root : ℕ) (links : List (Option ℕ)) → used_once root (links_in links) ≡ Ok tt → root < length links → AreWithin links
-    → IsOnce (root ∷ concat (links_in links))
+used_are_once : (root : ℕ) (links : List (List ℕ)) → used_once root links ≡ Ok tt → root < length links → AreWithin links → IsOnce (root ∷ concat links)
 used_are_once root links fine small within q = elim (cases_lt q (length links)) [
   | inl less ↦
-      let count : length (links_in links) ≡ length links = rw length-map refl in
-      let test : ℕ → Bool = λ place. nat_lt 1 (uses_of root (links_in links) place) in
-      let none = not_again (length (links_in links)) test _ refl fine in
-      let h : q < length (links_in links) = omega arith in
-      let fails = least_fails (length (links_in links)) test q h none in
-      rw (times-is q (root ∷ concat (links_in links))) (ltb-false 1 (uses_of root (links_in links) q) fails)
+      let test : ℕ → Bool = λ place. nat_lt 1 (uses_of root links place) in
+      let none = not_again (length links) test _ refl fine in
+      let fails = least_fails (length links) test q less none in
+      rw (times-is q (root ∷ concat links)) (ltb-false 1 (uses_of root links q) fails)
   | inr past ↦
-      let none = never (length links) q (root ∷ concat (links_in links)) (All-cons (λ p. p < length links) root (concat (links_in links)) small (linked_below (length links) links within)) past in
+      let none = never (length links) q (root ∷ concat links) (All-cons (λ p. p < length links) root (concat links) small (within_concat (length links) links within)) past in
       omega arith
 ]
 
-pub tree_once : (root : ℕ) (links : List (Option ℕ)) → used_once root (links_in links) ≡ Ok tt → root < length links → AreWithin links
-    → ComeOnce (in_order (flow_tree root (links_in links)))
+pub tree_once : (root : ℕ) (links : List (List ℕ)) → used_once root links ≡ Ok tt → root < length links → AreWithin links → ComeOnce (in_order (flow_tree root links))
 unfolding times
-tree_once root links fine small within = once_below (links_in links) root (used_are_once root links fine small within) (length (links_in links) - 1)
+tree_once root links fine small within = once_below links root (used_are_once root links fine small within) (length links - 1)
 
 -- Places of nodes that come once are no more than there are nodes.
 
-below_input : (n : ℕ) (links : List (Option ℕ)) (place : ℕ) → All (λ input. IfSome input (λ p. p < n)) links → Below n (get_or (links_in links) place [])
+below_input : (n : ℕ) (links : List (List ℕ)) (place : ℕ) → All (λ inputs. Below n inputs) links → Below n (get_or links place [])
 below_input n [] place within = All-nil (λ p. p < n)
-below_input n (None ∷ links) zero within = All-nil (λ p. p < n)
-below_input n (Some p ∷ links) zero within = All-cons (λ p. p < n) p [] (All-head (λ input. IfSome input (λ p. p < n)) (Some p) links within) (All-nil (λ p. p < n))
-below_input n (link ∷ links) (suc place) within = below_input n links place (All-tail (λ input. IfSome input (λ p. p < n)) link links within)
+below_input n (inputs ∷ links) zero within = All-head (λ places. Below n places) inputs links within
+below_input n (inputs ∷ links) (suc place) within = below_input n links place (All-tail (λ places. Below n places) inputs links within)
 
-module _ (n : ℕ) (links : List (Option ℕ)) (within : All (λ input. IfSome input (λ p. p < n)) links) where
-  below_trees : (depth : ℕ) (places : List ℕ) → ((p : ℕ) → p < n → Below n (in_order (tree_below (links_in links) depth p))) → Below n places
-      → Below n (all_below (links_in links) 0 depth places)
-  below_trees depth [] tree small = rw (none_below (links_in links) 0 depth) (All-nil (λ p. p < n))
+module _ (n : ℕ) (links : List (List ℕ)) (within : All (λ inputs. Below n inputs) links) where
+  below_trees : (depth : ℕ) (places : List ℕ) → ((p : ℕ) → p < n → Below n (in_order (tree_below links depth p))) → Below n places → Below n (all_below links 0 depth places)
+  below_trees depth [] tree small = rw (none_below links 0 depth) (All-nil (λ p. p < n))
   below_trees depth (p ∷ places) tree small =
-      rw (more_below (links_in links) 0 depth p places)
-      (All-append (λ p. p < n) (in_order (tree_below (links_in links) depth p)) (all_below (links_in links) 0 depth places)
+      rw (more_below links 0 depth p places)
+      (All-append (λ p. p < n) (in_order (tree_below links depth p)) (all_below links 0 depth places)
       (tree p (All-head (λ p. p < n) p places small)) (below_trees depth places tree (All-tail (λ p. p < n) p places small)))
 
-  below_tree : (depth place : ℕ) → place < n → Below n (in_order (tree_below (links_in links) depth place))
-  below_tree zero place small = rw (alone (links_in links) 0 place) (All-cons (λ p. p < n) place [] small (All-nil (λ p. p < n)))
+  below_tree : (depth place : ℕ) → place < n → Below n (in_order (tree_below links depth place))
+  below_tree zero place small = rw (alone links 0 place) (All-cons (λ p. p < n) place [] small (All-nil (λ p. p < n)))
   below_tree (suc depth) place small =
-      rw (at_place (links_in links) 0 depth place)
-      (All-append (λ p. p < n) (all_below (links_in links) 0 depth (get_or (links_in links) place [])) (place ∷ [])
-      (below_trees depth (get_or (links_in links) place []) (λ p less. below_tree depth p less) (below_input n links place within))
+      rw (at_place links 0 depth place)
+      (All-append (λ p. p < n) (all_below links 0 depth (get_or links place [])) (place ∷ [])
+      (below_trees depth (get_or links place []) (λ p less. below_tree depth p less) (below_input n links place within))
       (All-cons (λ p. p < n) place [] small (All-nil (λ p. p < n))))
 
 ones_count : (n : ℕ) → times 0 (concat (replicate n (0 ∷ []))) ≡ n
@@ -261,8 +254,8 @@ few_once n xs once below =
     let count = ones_count n in
     omega arith
 
-pub few_in_tree : (root : ℕ) (links : List (Option ℕ)) → used_once root (links_in links) ≡ Ok tt → root < length links → AreWithin links
-    → length (in_order (flow_tree root (links_in links))) ≤ length links
-few_in_tree root links fine small within =
-    few_once (length links) _ (once_below (links_in links) root (used_are_once root links fine small within) (length (links_in links) - 1))
-    (below_tree (length links) links within (length (links_in links) - 1) root small)
+-- however deep the tree is
+pub few_below : (root : ℕ) (links : List (List ℕ)) → used_once root links ≡ Ok tt → root < length links → AreWithin links
+    → (depth : ℕ) → length (in_order (tree_below links depth root)) ≤ length links
+few_below root links fine small within depth =
+    few_once (length links) _ (once_below links root (used_are_once root links fine small within) depth) (below_tree (length links) links within depth root small)

@@ -1,5 +1,5 @@
 -- Typed flows: their nodes, inputs first, and the tree of these.
-use Rattle.std.specs.Prelude.{ℕ, ◌-◌, ◌==◌, List, [], length, map, find, get_or, slice_get, Bool, true, Option}
+use Rattle.std.specs.Prelude.{ℕ, ◌≡◌, ◌-◌, ◌==◌, ◌<◌, List, [], length, map, find, position, get_or, slice_get, Bool, true, Option, Some}
 use Rattle.std.specs.List.{list_all}
 use Rattle.tuple_schema.specs.declared.schema.Column.{Column}
 use Rattle.list_algebra.specs.Trees.{Tree, trees_in}
@@ -32,6 +32,16 @@ root_in nodes = slice_get nodes (length nodes - 1)
 -- the node of this number
 abbrev pub node_of : TypedFlow → NodeId → Option Node
 node_of flow id = find (λ n. number_of n == id.0) flow.nodes
+
+-- the rank of a node: its place among the nodes
+abbrev pub rank_of : TypedFlow → NodeId → Option ℕ
+rank_of flow id = position (λ n. number_of n == id.0) flow.nodes
+
+-- the node has a lower rank
+pub record IsBelow (flow : TypedFlow) (rank : ℕ) (id : NodeId) : Type 0 where
+  pub below : ℕ
+  pub there : rank_of flow id ≡ Some below
+  pub lower : below < rank
 
 -- the columns of nodes
 abbrev pub columns_of : List Node → List (List Column)

@@ -1,5 +1,5 @@
 -- A flow as a graph: its nodes by place, sources first, the inputs of each, and what may be wrong with these.
-use Rattle.std.specs.Prelude.{ℕ, ◌-◌, ◌==◌, ◌<◌, ◌≤◌, All, IfSome, List, [], ◌∷◌, ◌++◌, length, map, filter_map, get_or, count_by, Bool, not, is_some, nat_lt, Option, Some, None, option_map, option_and_then, option_to_list, unwrap_or, Result, Ok, Err}
+use Rattle.std.specs.Prelude.{ℕ, ◌-◌, ◌==◌, ◌<◌, ◌≤◌, All, List, [], ◌∷◌, ◌++◌, length, map, filter_map, get_or, count_by, Bool, not, is_some, nat_lt, Option, Some, None, option_map, option_and_then, option_to_list, unwrap_or, Result, Ok, Err}
 use Rattle.std.specs.List.{concat, list_any}
 use Rattle.tuple_schema.specs.Stops.{◌>>=◌}
 use Rattle.list_algebra.specs.Trees.{Tree, in_order}
@@ -91,13 +91,9 @@ graph_of flow = do
   _ ← all_reached root (links_of flow)
   Ok (flow_tree root (links_of flow))
 
--- the links of nodes that have at most one input
-abbrev pub links_in : List (Option ℕ) → List (List ℕ)
-links_in inputs = map option_to_list inputs
-
 -- each input is a node
-abbrev pub AreWithin : List (Option ℕ) → Type 0
-AreWithin inputs = All (λ input. IfSome input (λ place. place < length inputs)) inputs
+abbrev pub AreWithin : List (List ℕ) → Type 0
+AreWithin links = All (λ inputs. All (λ place. place < length links) inputs) links
 
 -- none of these places comes twice
 abbrev pub ComeOnce : List ℕ → Type 0

@@ -7,3 +7,4 @@ pub mod Built
 pub mod Flows
 pub mod Typed
 pub mod Linked
+pub mod Typing

@@ -1,8 +1,8 @@
 -- What holds of the nodes of a typed flow: each is over its inputs, whose columns it takes.
-use Rattle.std.specs.Prelude.{◌≡◌, ◌≤◌, ◌<◌, ◌==◌, ℕ, List, [], ◌∷◌, length, map, get_or, count_by, option_to_list, All, IsSome, IsTrue, Some, true, false, ⊤}
+use Rattle.std.specs.Prelude.{◌≡◌, ◌≤◌, ◌<◌, ◌==◌, ℕ, List, [], ◌∷◌, length, count_by, All, IsSome, IsTrue, Some, true, false, ⊤}
 use Rattle.tuple_schema.specs.declared.schema.Column.{Column}
 use Rattle.tuple_schema.specs.Schemas.{IsSchema}
-use Rattle.list_algebra.specs.Trees.{Tree, Trees, EachNode, EachNodeBelow, roots_of, in_order, all_in_order}
+use Rattle.list_algebra.specs.Trees.{Tree, Trees, EachNode, roots_of, in_order}
 use Rattle.workflow_file.specs.Kept.{KeepsSource}
 use Rattle.plain_where.specs.Truths.{place_of}
 use Rattle.flow_types.specs.Columns.{IsInt}
@@ -13,7 +13,7 @@ use Rattle.flow_types.specs.declared.node.Kind.TheVariants as kind
 use Rattle.flow_types.specs.declared.node.Node.{Node}
 use Rattle.flow_types.specs.Names.{names_in}
 use Rattle.flow_types.specs.NodeTexts.{NodeText, source, select, project}
-use Rattle.flow_types.specs.Flows.{TypedFlow, number_of, tree_of, root_in, columns_in, columns_of, ids_of}
+use Rattle.flow_types.specs.Flows.{TypedFlow, number_of, tree_of, columns_in, columns_of, ids_of}
 
 -- these places of the input are taken, and each gives a column of whole numbers
 pub record Takes (input : List Column) (from : List ℕ) (columns : List Column) : Type 0 where
@@ -26,18 +26,6 @@ pub record IsBuiltSource (s : Source) : Type 0 where
   pub csv : s.packed ≡ false
   pub names : s.any_header ≡ false
   pub seq : s.seq ≡ true
-
--- a kind, over one input with these columns where it is no source, gives these columns
-abbrev pub IsFrom : Kind → List Column → List Column → Type 0
-IsFrom (kind.Source s) input columns = IsBuiltSource s
-IsFrom (kind.Select test) input columns = (columns ≡ input) × IsSome (place_of (names_in input) test.column)
-IsFrom (kind.Project from) input columns = Takes input from columns
-
--- such a kind, whose columns are whole numbers
-pub record IsTyped (input : List Column) (k : Kind) (columns : List Column) : Type 0 where
-  pub from : IsFrom k input columns
-  pub schema : IsSchema columns
-  pub ints : All IsInt columns
 
 -- what a node says keeps the rules, and is built
 abbrev pub KeepsText : NodeText → Type 0
@@ -61,19 +49,6 @@ pub record IsLinked (n : Node) (below : List Node) : Type 0 where
 -- a node over the trees of its inputs
 abbrev pub IsLinkedOver : Node → Trees Node → Type 0
 IsLinkedOver n trees = IsLinked n (roots_of trees)
-
--- the nodes of one tree, inputs first, each over its inputs
-pub record IsTreeOf (nodes : List Node) : Type 0 where
-  pub tree : Tree Node
-  pub all : in_order tree ≡ nodes
-  pub linked : EachNode IsLinkedOver tree
-
--- the nodes of the trees of inputs, of which there is none or one, whose root is the last node
-pub record AreInputs (nodes : List Node) : Type 0 where
-  pub trees : Trees Node
-  pub all : all_in_order trees ≡ nodes
-  pub linked : EachNodeBelow IsLinkedOver trees
-  pub roots : roots_of trees ≡ option_to_list (root_in nodes)
 
 -- no two of these nodes have one number
 abbrev pub AreApart : List Node → Type 0

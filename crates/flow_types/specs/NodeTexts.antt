@@ -28,6 +28,12 @@ text_at flow place =
     option_or (option_map source (slice_get flow.sources place))
     (option_and_then text_of (slice_get flow.nodes (place - length flow.sources)))
 
+-- how many inputs a node needs that says this
+abbrev pub inputs_needed : NodeText → ℕ
+inputs_needed (source s) = 0
+inputs_needed (select test) = 1
+inputs_needed (project texts) = 1
+
 -- what is lent of a raw flow, as it is
 abbrev pub text_seen : LentText → NodeText
 text_seen (lent.Source s) = source s.now

@@ -1,5 +1,5 @@
 -- The typed flow: the columns and the kind of each node, or its first fault.
-use Rattle.std.specs.Prelude.{ℕ, List, [], ◌∷◌, ◌++◌, map, filter_map, slice_get, unwrap_or, codes, bytes_eq, Bool, false, Option, Some, None, option_map, option_and_then, option_to_list, Result, Ok, Err}
+use Rattle.std.specs.Prelude.{ℕ, List, [], ◌∷◌, map, filter_map, slice_get, unwrap_or, codes, bytes_eq, Bool, false, Option, Some, None, option_map, option_and_then, Result, Ok, Err}
 use Rattle.tuple_schema.specs.Stops.{◌>>=◌}
 use Rattle.list_algebra.specs.Trees.{Tree, node, Trees, no_trees, tree, roots_of, in_order}
 use Rattle.tuple_schema.specs.declared.schema.Column.{Column}
@@ -17,7 +17,7 @@ use Rattle.flow_types.specs.declared.node.Source.{Source}
 use Rattle.flow_types.specs.declared.node.Kind.{Kind}
 use Rattle.flow_types.specs.declared.node.Kind.TheVariants as kind
 use Rattle.flow_types.specs.Names.{name_at, names_in, no_double, no_unknown, cols_if}
-use Rattle.flow_types.specs.Flows.{TypedFlow, root_in, columns_in, columns_of, ids_of}
+use Rattle.flow_types.specs.Flows.{TypedFlow, columns_in, columns_of, ids_of}
 use Rattle.flow_types.specs.NodeTexts.{NodeText, source, select, project, text_at}
 use Rattle.flow_types.specs.Graph.{names_of, id_of, fault_at, graph_of}
 
@@ -123,12 +123,6 @@ abbrev pub at_node : {X : Type 0} → ℕ → Result X SchemaCause → Result X 
 at_node place (Ok x) = Ok x
 at_node place (Err why) = Err (fault_at place why)
 
--- these nodes, and the one at a place behind them, over the last of them
-abbrev pub typed_last : RawFlow → ℕ → List Node → Result (List Node) SchemaFault
-typed_last flow place nodes = do
-  last ← at_node place (typed_node flow place (option_to_list (root_in nodes)))
-  Ok (nodes ++ last ∷ [])
-
 abbrev mutual
   -- the typed tree: the trees of its inputs, and then the node itself over the roots of these
   pub typed_tree : RawFlow → Tree ℕ → Result (Tree Node) SchemaFault
@@ -143,11 +137,6 @@ abbrev mutual
     one ← typed_tree flow first
     others ← typed_trees flow rest
     Ok (tree one others)
-
--- the nodes of a typed tree, inputs first
-abbrev pub nodes_in : Result (Tree Node) SchemaFault → Result (List Node) SchemaFault
-nodes_in (Ok whole) = Ok (in_order whole)
-nodes_in (Err fault) = Err fault
 
 -- the typed flow of a raw one whose names fit together, or the first fault
 unfoldable pub typed : RawFlow → Result TypedFlow SchemaFault

@@ -1,11 +1,11 @@
 // Flows.
-ghost use Rattle.std.specs.Prelude.{◌≡◌, ◌==◌, Some, length, position, option_map, option_copied, IsSome, IsTrue, All};
+ghost use Rattle.std.specs.Prelude.{◌≡◌, ◌==◌, Some, length, position, option_map, option_copied, IsSome, IfSome, IsTrue, All};
 ghost use Rattle.tuple_schema.specs.Stops.{Gives};
 ghost use Rattle.workflow_file.specs.Kept.{KeepsRules};
 ghost use Rattle.flow_types.specs.Columns.{IsInt};
 ghost use Rattle.flow_types.specs.Built.{is_built};
 ghost use Rattle.flow_types.specs.Typed.{typed};
-ghost use Rattle.flow_types.specs.Flows.{number_of, node_of, root_in, has_fixed_root};
+ghost use Rattle.flow_types.specs.Flows.{number_of, node_of, root_in, has_fixed_root, rank_of, IsBelow};
 ghost use Rattle.flow_types.specs.Linked.{IsFlow};
 
 use crate::fault::{NodeId, SchemaFault};
@@ -81,7 +81,8 @@ impl Flow {
     /// The place of the node among the nodes, each of which has a higher one than its inputs.
     pub fn rank(&self, node: NodeId) -> u8
         requires { IsSome (node_of self.now node) }
-        ensures { Some result ≡ position (λ n. number_of n == node.0) self.now.nodes }
+        ensures place { Some result ≡ rank_of self.now node }
+        ensures above { IfSome (node_of self.now node) (λ n. All (IsBelow self.now result) n.inputs) }
     {
         match place_in(&self.nodes, node) {
             Some(rank) => rank as u8,
@@ -144,14 +145,16 @@ fn place_in(nodes: &[Node], node: NodeId) -> Option<usize>
 /// The typed flow, or the first fault of the raw one. A name that comes twice is told before an input
 /// that isn't there, then a node that is used twice, one that isn't reached, and each node's own
 /// columns, inputs first.
-#[tactic(auto, unfolding(crate::specs::Typed::typed), using(crate::proofs::Reached::flow_tree_is))]
+#[tactic(auto, unfolding(crate::specs::Typed::typed))]
 pub fn type_flow(alloc: Global, raw: &RawFlow) -> Result<Flow, Stop<SchemaFault>>
     requires kept { KeepsRules raw.now }
     requires built { IsTrue (is_built raw.now) }
     ensures typed { Gives result (typed raw.now) }
 {
     let graph = read_graph(alloc, raw)?;
-    let nodes = type_tree(alloc, raw, &graph.links, graph.links.len() - 1, graph.root)?;
+    let mut nodes = Vec::new(alloc);
+    let depth = graph.links.len() - 1;
+    type_tree(alloc, raw, &graph.links, depth, graph.root, &mut nodes)?;
     Ok(Flow { nodes, key: None })
 }
 

@@ -1,36 +1,60 @@
-// The graph of a flow. At this stage a node has at most one input, so a link is one place or none.
-ghost use Rattle.std.specs.Prelude.{◌≡◌, ◌<◌, ◌≤◌, ◌++◌, ◌||◌, [], ℕ, Some, false, is_some, map, filter_map, length, vec_len, get_or, option_copied, option_to_list, IsTrue, IfOk, IfSome, OnOk};
+// The graph of a flow.
+ghost use Rattle.std.specs.Prelude.{◌≡◌, ◌-◌, ◌<◌, ◌≤◌, ◌++◌, ◌∷◌, ◌||◌, ◌==◌, [], ℕ, Some, Ok, false, is_some, map, filter_map, length, vec_len, get_or, count_by, option_to_list, unwrap_or, All, IfOk, OnOk};
+ghost use Rattle.std.specs.List.{concat};
 ghost use Rattle.tuple_schema.specs.Stops.{Gives, GivesView, IfFault};
 ghost use Rattle.workflow_file.specs.Kept.{KeepsRules};
 ghost use Rattle.plain_where.specs.Truths.{place_of};
-ghost use Rattle.flow_types.specs.Built.{is_built};
 ghost use Rattle.list_algebra.specs.Trees.{in_order};
-ghost use Rattle.flow_types.specs.Trees.{tree_below, inputs_below};
-ghost use Rattle.flow_types.specs.Graph.{names_of, needs_of, links_of, links_in, AreWithin, fault_at, input_fault, inputs_exist, root_at, uses_of, used_once, is_in, all_reached, flow_tree, graph_of, ComeOnce};
+ghost use Rattle.flow_types.specs.Trees.{tree_below, inputs_below, IsWhole};
+ghost use Rattle.flow_types.specs.Graph.{names_of, input_names, needs_of, links_of, AreWithin, fault_at, input_fault, inputs_exist, root_at, used_once, is_in, all_reached, flow_tree, graph_of, ComeOnce};
 
 use crate::fault::{NodeId, SchemaCause, SchemaFault};
 use crate::named::Places;
 use std::alloc::Global;
-use tuple_schema::{Memory, Stop, Text};
-use workflow_file::RawFlow;
+use std::marker::Model;
+use tuple_schema::{Memory, Names, Stop, Text};
+use workflow_file::{RawFlow, RawNode};
 
-/// The place of the table's input, and of the input of each node, which a source hasn't got.
+/// The places of a node's inputs, in order. A contract sees them as their list.
+#[derive(Drop)]
+pub struct Link {
+    inputs: Vec<usize>,
+}
+
+impl Model for Link {
+    ghost use Rattle.std.specs.Prelude.{List, ℕ};
+
+    ghost Value = { List ℕ };
+
+    ghost view = { λ l. l.inputs.items };
+}
+
+impl Link {
+    fn inputs(&self) -> &[usize]
+        ensures { result.now ≡ self.now }
+    {
+        &self.inputs
+    }
+}
+
+/// The place of the table's input, and the inputs of each node.
 #[derive(Drop)]
 pub struct Graph {
     pub root: usize,
-    pub links: Vec<Option<usize>>,
+    pub links: Vec<Link>,
 }
 
 /// The graph of a flow whose names fit together, or the first fault.
 pub fn read_graph(alloc: Global, raw: &RawFlow) -> Result<Graph, Stop<SchemaFault>>
     requires kept { KeepsRules raw.now }
-    requires built { IsTrue (is_built raw.now) }
-    ensures graph { GivesView (λ g. flow_tree g.root (links_in g.links.items)) result (graph_of raw.now) }
-    ensures links { IfOk result (λ g. links_in g.links.items ≡ links_of raw.now) }
+    ensures graph { GivesView (λ g. flow_tree g.root g.links.items) result (graph_of raw.now) }
+    ensures links { IfOk result (λ g. g.links.items ≡ links_of raw.now) }
     ensures within { IfOk result (λ g. AreWithin g.links.items) }
+    ensures there { OnOk result (inputs_exist (names_of raw.now) (needs_of raw.now) ≡ Ok tt) }
     ensures root { IfOk result (λ g. g.root < vec_len g.links) }
-    ensures few { IfOk result (λ g. length (in_order (flow_tree g.root (links_in g.links.items))) ≤ 80) }
-    ensures once { IfOk result (λ g. ComeOnce (in_order (flow_tree g.root (links_in g.links.items)))) }
+    ensures whole { IfOk result (λ g. IsWhole g.links.items (vec_len g.links - 1) g.root) }
+    ensures few { IfOk result (λ g. length (in_order (flow_tree g.root g.links.items)) ≤ 80) }
+    ensures once { IfOk result (λ g. ComeOnce (in_order (flow_tree g.root g.links.items))) }
 {
     let names = names_of(alloc, raw)?;
     let places = Places::of(alloc, &names)?;
@@ -73,65 +97,98 @@ pub fn fault_at(place: usize, cause: SchemaCause) -> SchemaFault
     }
 }
 
-// The input of the node at a place. A source has none, and selections and projections have one.
-fn input_of(raw: &RawFlow, place: usize) -> Option<&Text>
-    requires kept { KeepsRules raw.now }
-    requires built { IsTrue (is_built raw.now) }
-    ensures { option_to_list (option_copied result) ≡ get_or (needs_of raw.now) place [] }
+// The names of the inputs of the node at a place: a source has none.
+fn needs_at(alloc: Global, raw: &RawFlow, place: usize) -> Result<Vec<&Text>, Memory>
+    ensures { IfOk result (λ v. map (λ n. n.now) v.items ≡ get_or (needs_of raw.now) place []) }
 {
     let sources = raw.sources.items();
     let nodes = raw.nodes.items();
     if place < sources.len() {
-        return None;
+        return Ok(Vec::new(alloc));
     }
     let below = place - sources.len();
     if below >= nodes.len() {
-        return None;
+        return Ok(Vec::new(alloc));
     }
-    nodes[below].input.as_ref()
+    input_names(alloc, &nodes[below])
 }
 
-// The input of each node, or the first that isn't there.
-fn links_of(
-    alloc: Global,
-    raw: &RawFlow,
-    places: &Places,
-) -> Result<Vec<Option<usize>>, Stop<SchemaFault>>
+// The names of a node's inputs, in order.
+fn input_names(alloc: Global, node: &RawNode) -> Result<Vec<&Text>, Memory>
+    ensures { IfOk result (λ v. map (λ n. n.now) v.items ≡ input_names node.now) }
+{
+    let mut names = Vec::new(alloc);
+    push_name(&mut names, &node.input)?;
+    push_name(&mut names, &node.left)?;
+    push_name(&mut names, &node.right)?;
+    push_names(&mut names, &node.inputs)?;
+    Ok(names)
+}
+
+fn push_name<'r>(names: &mut Vec<&'r Text>, name: &'r Option<Text>) -> Result<(), Memory>
+    ensures { OnOk result (map (λ n. n.now) names.new.items
+        ≡ map (λ n. n.now) names.old.items ++ option_to_list name.now) }
+{
+    if let Some(name) = name {
+        names.push(name)?;
+    }
+    Ok(())
+}
+
+fn push_names<'r>(names: &mut Vec<&'r Text>, more: &'r Option<Names>) -> Result<(), Memory>
+    ensures { OnOk result (map (λ n. n.now) names.new.items
+        ≡ map (λ n. n.now) names.old.items ++ unwrap_or more.now []) }
+{
+    let Some(more) = more else {
+        return Ok(());
+    };
+    for name in more.items() {
+        names.push(name)?;
+    }
+    Ok(())
+}
+
+// The inputs of each node, or the first that isn't there.
+fn links_of(alloc: Global, raw: &RawFlow, places: &Places) -> Result<Vec<Link>, Stop<SchemaFault>>
     requires kept { KeepsRules raw.now }
-    requires built { IsTrue (is_built raw.now) }
     requires names { places.now ≡ names_of raw.now }
     ensures inputs { GivesView (λ _. tt) result (inputs_exist (names_of raw.now) (needs_of raw.now)) }
-    ensures links { IfOk result (λ v. links_in v.items ≡ links_of raw.now) }
+    ensures links { IfOk result (λ v. v.items ≡ links_of raw.now) }
     ensures within { IfOk result (λ v. AreWithin v.items) }
     ensures len { IfOk result (λ v. vec_len v ≡ length places.now) }
 {
     let mut links = Vec::new(alloc);
     for place in 0..places.len() {
-        links.push(link_of(raw, places, place)?)?;
+        links.push(link_of(alloc, raw, places, place)?)?;
     }
     Ok(links)
 }
 
-// The place of the input of the node at a place.
-fn link_of(raw: &RawFlow, places: &Places, place: usize) -> Result<Option<usize>, Stop<SchemaFault>>
-    requires kept { KeepsRules raw.now }
-    requires built { IsTrue (is_built raw.now) }
+// The places of the inputs of the node at a place, or the first that isn't there.
+fn link_of(
+    alloc: Global,
+    raw: &RawFlow,
+    places: &Places,
+    place: usize,
+) -> Result<Link, Stop<SchemaFault>>
     requires place { place < 256 }
-    ensures link { IfOk result (λ link. option_to_list link ≡ filter_map (place_of places.now)
+    ensures link { IfOk result (λ link. link ≡ filter_map (place_of places.now)
         (get_or (needs_of raw.now) place [])) }
     ensures there { OnOk result (is_some (input_fault places.now (needs_of raw.now) place) ≡ false) }
-    ensures within { IfOk result (λ link. IfSome link (λ input. input < length places.now)) }
+    ensures within { IfOk result (λ link. All (λ input. input < length places.now) link) }
     ensures missing { IfFault result (λ fault. input_fault places.now (needs_of raw.now) place ≡ Some fault) }
 {
-    let Some(name) = input_of(raw, place) else {
-        return Ok(None);
-    };
-    if let Some(input) = places.place(name) {
-        return Ok(Some(input));
+    let names = needs_at(alloc, raw, place)?;
+    let mut inputs = Vec::new(alloc);
+    for name in &names {
+        let Some(input) = places.place(name) else {
+            let name = name.copy()?;
+            let cause = SchemaCause::NoInput { name };
+            return Err(Stop::Fault(fault_at(place, cause)));
+        };
+        inputs.push(input)?;
     }
-    let name = name.copy()?;
-    let cause = SchemaCause::NoInput { name };
-    Err(Stop::Fault(fault_at(place, cause)))
+    Ok(Link { inputs })
 }
 
 // The place of the table's input.
@@ -149,87 +206,83 @@ fn root_at(places: &Places, input: &Text) -> Result<usize, Stop<SchemaFault>>
     }
 }
 
-// How often the node at each place is an input, the table's among them.
-fn count_uses(alloc: Global, root: usize, links: &[Option<usize>]) -> Result<Vec<usize>, Memory>
-    requires few { length links.now ≤ 80 }
-    requires root { root < length links.now }
-    requires within { AreWithin links.now }
-    ensures len { IfOk result (λ v. vec_len v ≡ length links.now) }
-    ensures uses { IfOk result (λ v. (place : ℕ) → place < length links.now
-        → get_or v.items place 0 ≡ uses_of root (links_in links.now) place) }
+// The table's input, and the inputs of all nodes.
+fn all_uses(alloc: Global, root: usize, links: &[Link]) -> Result<Vec<usize>, Memory>
+    ensures { IfOk result (λ v. v.items ≡ root ∷ concat links.now) }
 {
-    let mut uses = vec![in alloc; 0; links.len()]?;
-    uses[root] = 1;
+    let mut uses = Vec::new(alloc);
+    uses.push(root)?;
     for link in links {
-        match link {
-            None => {}
-            Some(input) => uses[*input] += 1,
-        }
+        uses.extend_from_slice(link.inputs())?;
     }
     Ok(uses)
 }
 
-fn used_once(alloc: Global, root: usize, links: &[Option<usize>]) -> Result<(), Stop<SchemaFault>>
-    requires few { length links.now ≤ 80 }
-    requires root { root < length links.now }
-    requires within { AreWithin links.now }
-    ensures { Gives result (used_once root (links_in links.now)) }
+// How often the place is among the uses.
+fn count_uses(uses: &[usize], place: usize) -> usize
+    ensures { result ≡ count_by (λ p. p == place) uses.now }
 {
-    let uses = count_uses(alloc, root, links)?;
-    for place in 0..uses.len() {
-        if uses[place] > 1 {
+    uses.iter().filter(|p| **p == place).count()
+}
+
+fn used_once(alloc: Global, root: usize, links: &[Link]) -> Result<(), Stop<SchemaFault>>
+    requires few { length links.now < 256 }
+    ensures { Gives result (used_once root links.now) }
+{
+    let uses = all_uses(alloc, root, links)?;
+    for place in 0..links.len() {
+        if count_uses(&uses, place) > 1 {
             return Err(Stop::Fault(fault_at(place, SchemaCause::UsedTwice)));
         }
     }
     Ok(())
 }
 
-/// The input of the node at a place, if a tree of this depth has it.
-pub fn link_below(links: &[Option<usize>], depth: usize, place: usize) -> Option<usize>
-    ensures link { option_to_list result ≡ inputs_below (links_in links.now) depth place }
-    ensures deeper { IfSome result (λ _. 0 < depth) }
-    ensures within { AreWithin links.now → IfSome result (λ input. input < length links.now) }
+/// The inputs of the node at a place that a tree of this depth has.
+pub fn inputs_below(links: &[Link], depth: usize, place: usize) -> &[usize]
+    ensures inputs { result.now ≡ inputs_below links.now depth place }
+    ensures deeper { 0 < length result.now → 0 < depth }
+    ensures within { AreWithin links.now → All (λ input. input < length links.now) result.now }
 {
     if depth == 0 || place >= links.len() {
-        return None;
+        return &[];
     }
-    links[place]
+    links[place].inputs()
 }
 
 // Marks the nodes of a tree.
-fn reach(links: &[Option<usize>], depth: usize, place: usize, reached: &mut [bool])
+fn reach(links: &[Link], depth: usize, place: usize, reached: &mut [bool])
     requires all { length reached.old ≡ length links.now }
     requires place { place < length links.now }
     requires within { AreWithin links.now }
     ensures len { length reached.new ≡ length reached.old }
     ensures marked { (k : ℕ) → get_or reached.new k false ≡ (get_or reached.old k false
-        || is_in (tree_below (links_in links.now) depth place) k) }
+        || is_in (tree_below links.now depth place) k) }
 {
-    match link_below(links, depth, place) {
-        None => {}
-        Some(input) => reach(links, depth - 1, input, reached),
+    for input in inputs_below(links, depth, place) {
+        reach(links, depth - 1, *input, reached);
     }
     reached[place] = true;
 }
 
 // Whether the table's input reaches the node, at each place.
-fn mark_reached(alloc: Global, root: usize, links: &[Option<usize>]) -> Result<Vec<bool>, Memory>
+fn mark_reached(alloc: Global, root: usize, links: &[Link]) -> Result<Vec<bool>, Memory>
     requires root { root < length links.now }
     requires within { AreWithin links.now }
     ensures len { IfOk result (λ v. vec_len v ≡ length links.now) }
     ensures reached { IfOk result (λ v. (place : ℕ) → place < length links.now
-        → get_or v.items place false ≡ is_in (flow_tree root (links_in links.now)) place) }
+        → get_or v.items place false ≡ is_in (flow_tree root links.now) place) }
 {
     let mut reached = vec![in alloc; false; links.len()]?;
     reach(links, links.len() - 1, root, &mut reached);
     Ok(reached)
 }
 
-fn all_reached(alloc: Global, root: usize, links: &[Option<usize>]) -> Result<(), Stop<SchemaFault>>
-    requires few { length links.now ≤ 80 }
+fn all_reached(alloc: Global, root: usize, links: &[Link]) -> Result<(), Stop<SchemaFault>>
+    requires few { length links.now < 256 }
     requires root { root < length links.now }
     requires within { AreWithin links.now }
-    ensures { Gives result (all_reached root (links_in links.now)) }
+    ensures { Gives result (all_reached root links.now) }
 {
     let reached = mark_reached(alloc, root, links)?;
     for place in 0..reached.len() {

@@ -1,11 +1,10 @@
 // The nodes of a flow.
-ghost use Rattle.std.specs.Prelude.{◌≡◌, [], ◌∷◌, IfOk};
+ghost use Rattle.std.specs.Prelude.{◌≡◌};
 
 use crate::fault::NodeId;
 use plain_where::Expr;
-use std::alloc::Global;
 use std::marker::Model;
-use tuple_schema::{Memory, Names, Schema, Text};
+use tuple_schema::{Names, Schema, Text};
 
 /// A list of places of columns. A contract sees it as that list.
 #[derive(Debug, Drop)]
@@ -51,22 +50,10 @@ impl Model for Inputs {
 }
 
 impl Inputs {
-    /// No input.
-    pub fn none(alloc: Global) -> Inputs
-        ensures { result ≡ [] }
+    pub fn of(nodes: Vec<NodeId>) -> Inputs
+        ensures { result ≡ nodes.items }
     {
-        Inputs {
-            nodes: Vec::new(alloc),
-        }
-    }
-
-    /// A single input.
-    pub fn one(alloc: Global, node: NodeId) -> Result<Inputs, Memory>
-        ensures { IfOk result (λ i. i ≡ node ∷ []) }
-    {
-        let mut nodes = Vec::new(alloc);
-        nodes.push(node)?;
-        Ok(Inputs { nodes })
+        Inputs { nodes }
     }
 
     pub fn nodes(&self) -> &[NodeId]

@@ -1,23 +1,22 @@
 // The columns and kinds of nodes.
-ghost use Rattle.std.specs.Prelude.{◌≡◌, ◌<◌, ◌≤◌, ◌+◌, ℕ, List, [], ◌∷◌, Some, None, Ok, map, length, filter_map, option_copied, option_to_list, IsTrue, IfOk, IfSome, OnOk, All};
+ghost use Rattle.std.specs.Prelude.{◌≡◌, ◌<◌, ◌≤◌, ◌+◌, [], ◌∷◌, Some, None, Ok, Err, map, length, vec_len, filter_map, slice_get, IsTrue, IfOk, IfSome, OnOk, All};
 ghost use Rattle.tuple_schema.specs.Stops.{Gives, GivesView, IfFault};
-ghost use Rattle.tuple_schema.specs.declared.schema.Column.{Column as ColumnValue};
-ghost use Rattle.tuple_schema.specs.Schemas.{IsSchema};
 ghost use Rattle.tuple_schema.specs.Texts.{head_of, rest_of};
 ghost use Rattle.workflow_file.specs.Kept.{KeepsRules, KeepsSource};
 ghost use Rattle.plain_where.specs.Truths.{place_of};
 ghost use Rattle.flow_types.specs.Columns.{int_column, IsInt};
 ghost use Rattle.flow_types.specs.Names.{names_in, no_double, no_unknown};
-ghost use Rattle.flow_types.specs.Trees.{tree_below};
-ghost use Rattle.flow_types.specs.Graph.{id_of, links_of, links_in, AreWithin};
+ghost use Rattle.flow_types.specs.Trees.{tree_below, IsWhole};
+ghost use Rattle.flow_types.specs.Graph.{id_of, names_of, needs_of, links_of, inputs_exist, AreWithin};
 ghost use Rattle.flow_types.specs.Built.{is_built, is_built_source};
-ghost use Rattle.flow_types.specs.NodeTexts.{text_seen};
-ghost use Rattle.flow_types.specs.Flows.{ids_of, columns_of, columns_in};
-ghost use Rattle.flow_types.specs.Typed.{new_name, renamed, output_columns, source_cols, is_word, source_of, projection, typed_source, typed_select, typed_project, typed_text, typed_node, at_node, typed_last, typed_tree, nodes_in};
-ghost use Rattle.flow_types.specs.Linked.{IsBuiltSource, Takes, KeepsText, IsTyped, IsLinked, AreInputs, IsTreeOf};
+ghost use Rattle.flow_types.specs.NodeTexts.{text_at, text_seen, inputs_needed};
+ghost use Rattle.flow_types.specs.Flows.{ids_of, columns_of};
+ghost use Rattle.flow_types.specs.Typed.{new_name, renamed, output_columns, source_cols, is_word, source_of, projection, typed_source, typed_select, typed_project, typed_text, typed_node, at_node, typed_tree};
+ghost use Rattle.flow_types.specs.Linked.{IsBuiltSource, Takes, KeepsText, IsOver, IsLinked};
+ghost use Rattle.flow_types.specs.Typing.{HasTree};
 
 use crate::fault::{NodeId, SchemaCause, SchemaFault};
-use crate::graph::{fault_at, link_below};
+use crate::graph::{Link, fault_at, inputs_below};
 use crate::names::{cols_if, names_in, no_double, place_of};
 use crate::node::{Cols, Inputs, Kind, Node, Source};
 use crate::node_text::{NodeText, name_at, text_at};
@@ -26,96 +25,101 @@ use std::alloc::Global;
 use tuple_schema::{Column, ColumnKind, Memory, Names, Schema, Stop, Text, rest_of};
 use workflow_file::{RawFlow, RawSource};
 
-/// The typed nodes of a tree, inputs first, or the first fault.
+/// Puts the typed nodes of a tree behind the nodes, inputs first, and tells where its root stands; or the first fault.
 pub fn type_tree(
     alloc: Global,
     raw: &RawFlow,
-    links: &[Option<usize>],
+    links: &[Link],
     depth: usize,
     place: usize,
-) -> Result<Vec<Node>, Stop<SchemaFault>>
+    nodes: &mut Vec<Node>,
+) -> Result<usize, Stop<SchemaFault>>
     requires kept { KeepsRules raw.now }
     requires built { IsTrue (is_built raw.now) }
-    requires links { links_in links.now ≡ links_of raw.now }
+    requires there { inputs_exist (names_of raw.now) (needs_of raw.now) ≡ Ok tt }
+    requires links { links.now ≡ links_of raw.now }
     requires within { AreWithin links.now }
     requires place { place < length links.now }
-    ensures nodes { GivesView (λ v. v.items) result (nodes_in
-        (typed_tree raw.now (tree_below (links_in links.now) depth place))) }
-    ensures tree { IfOk result (λ v. IsTreeOf v.items) }
+    requires whole { IsWhole links.now depth place }
+    requires ints { All (λ n. All IsInt n.schema) nodes.old.items }
+    ensures tree { IfOk result (HasTree raw.now (tree_below links.now depth place) nodes.old.items nodes.new.items) }
+    ensures ints { OnOk result (All (λ n. All IsInt n.schema) nodes.new.items) }
+    ensures fault { IfFault result (λ fault. typed_tree raw.now (tree_below links.now depth place) ≡ Err fault) }
 {
-    match link_below(links, depth, place) {
-        None => type_last(alloc, raw, place, Vec::new(alloc)),
-        Some(input) => {
-            let nodes = type_tree(alloc, raw, links, depth - 1, input)?;
-            type_last(alloc, raw, place, nodes)
-        }
+    let mut roots = Vec::new(alloc);
+    for input in inputs_below(links, depth, place) {
+        let root = type_tree(alloc, raw, links, depth - 1, *input, nodes)?;
+        roots.push(root)?;
     }
-}
-
-// The nodes, and the one at a place behind them.
-fn type_last(
-    alloc: Global,
-    raw: &RawFlow,
-    place: usize,
-    mut nodes: Vec<Node>,
-) -> Result<Vec<Node>, Stop<SchemaFault>>
-    requires kept { KeepsRules raw.now }
-    requires built { IsTrue (is_built raw.now) }
-    requires place { place < length raw.now.sources + length raw.now.nodes }
-    requires source { place < length raw.now.sources → nodes.items ≡ [] }
-    requires inputs { AreInputs nodes.items }
-    ensures nodes { GivesView (λ v. v.items) result (typed_last raw.now place nodes.items) }
-    ensures tree { IfOk result (λ v. IsTreeOf v.items) }
-{
-    let node = type_node(alloc, raw, place, nodes.as_slice().last())?;
+    let node = type_over(alloc, raw, place, nodes, &roots)?;
+    let root = nodes.len();
     nodes.push(node)?;
-    Ok(nodes)
+    Ok(root)
 }
 
-// The node at a place, over its input.
-fn type_node(
+// The node at a place, over those that stand at these places among the nodes.
+fn type_over(
     alloc: Global,
     raw: &RawFlow,
     place: usize,
-    input: Option<&Node>,
+    nodes: &[Node],
+    roots: &[usize],
 ) -> Result<Node, Stop<SchemaFault>>
     requires kept { KeepsRules raw.now }
     requires built { IsTrue (is_built raw.now) }
     requires place { place < length raw.now.sources + length raw.now.nodes }
-    requires source { place < length raw.now.sources → option_copied input ≡ None }
-    requires ints { IfSome (option_copied input) (λ n. All IsInt n.schema) }
+    requires within { All (λ root. root < length nodes.now) roots.now }
+    requires count { IfSome (text_at raw.now place) (λ text. length roots.now ≡ inputs_needed text) }
+    requires ints { All (λ n. All IsInt n.schema) nodes.now }
     ensures node { Gives result (at_node place (typed_node raw.now place
-        (option_to_list (option_copied input.entry)))) }
-    ensures linked { IfOk result (λ n. IsLinked n (option_to_list (option_copied input.entry))) }
+        (filter_map (slice_get nodes.now) roots.now))) }
+    ensures linked { IfOk result (λ n. IsLinked n (filter_map (slice_get nodes.now) roots.now)) }
 {
-    match type_at(alloc, raw, place, input) {
+    let inputs = nodes_at(alloc, nodes, roots)?;
+    match type_node(alloc, raw, place, &inputs) {
         Ok(node) => Ok(node),
         Err(Stop::Memory) => Err(Stop::Memory),
         Err(Stop::Fault(cause)) => Err(Stop::Fault(fault_at(place, cause))),
     }
 }
 
-fn type_at(
+// The nodes at these places.
+fn nodes_at<'n>(alloc: Global, nodes: &'n [Node], places: &[usize]) -> Result<Vec<&'n Node>, Memory>
+    requires within { All (λ place. place < length nodes.now) places.now }
+    requires ints { All (λ n. All IsInt n.schema) nodes.now }
+    ensures nodes { IfOk result (λ v. map (λ n. n.now) v.items ≡ filter_map (slice_get nodes.now) places.now) }
+    ensures len { IfOk result (λ v. vec_len v ≡ length places.now) }
+    ensures ints { IfOk result (λ v. All (λ n. All IsInt n.now.schema) v.items) }
+{
+    let mut found = Vec::new(alloc);
+    for place in places {
+        found.push(&nodes[*place])?;
+    }
+    Ok(found)
+}
+
+// The node at a place, over its inputs.
+fn type_node(
     alloc: Global,
     raw: &RawFlow,
     place: usize,
-    input: Option<&Node>,
+    inputs: &[&Node],
 ) -> Result<Node, Stop<SchemaCause>>
     requires kept { KeepsRules raw.now }
     requires built { IsTrue (is_built raw.now) }
     requires place { place < length raw.now.sources + length raw.now.nodes }
-    requires source { place < length raw.now.sources → option_copied input ≡ None }
-    requires ints { IfSome (option_copied input) (λ n. All IsInt n.schema) }
-    ensures node { Gives result (typed_node raw.now place (option_to_list (option_copied input.entry))) }
-    ensures linked { IfOk result (λ n. IsLinked n (option_to_list (option_copied input.entry))) }
+    requires count { IfSome (text_at raw.now place) (λ text. length inputs.now ≡ inputs_needed text) }
+    requires ints { All (λ n. All IsInt n.now.schema) inputs.now }
+    ensures node { Gives result (typed_node raw.now place (map (λ n. n.now) inputs.now)) }
+    ensures linked { IfOk result (λ n. IsLinked n (map (λ n. n.now) inputs.now)) }
 {
     let text = text_at(alloc, raw, place)?;
-    let typed = type_text(alloc, text, columns_of(input))?;
+    let typed = type_text(alloc, text, inputs)?;
     Ok(Node {
         id: id_of(place),
         name: name_at(raw, place).copy()?,
         kind: typed.kind,
-        inputs: inputs_of(alloc, input)?,
+        inputs: ids_of(alloc, inputs)?,
         schema: typed.schema,
         declared: Names::new(alloc),
     })
@@ -129,25 +133,15 @@ fn id_of(place: usize) -> NodeId
     NodeId(place as u8)
 }
 
-// The number of the input, if there is one.
-fn inputs_of(alloc: Global, input: Option<&Node>) -> Result<Inputs, Memory>
-    ensures { IfOk result (λ i. i ≡ ids_of (option_to_list (option_copied input.entry))) }
+// The numbers of nodes.
+fn ids_of(alloc: Global, nodes: &[&Node]) -> Result<Inputs, Memory>
+    ensures { IfOk result (λ i. i ≡ ids_of (map (λ n. n.now) nodes.now)) }
 {
-    match input {
-        None => Ok(Inputs::none(alloc)),
-        Some(input) => Inputs::one(alloc, input.id),
+    let mut ids = Vec::new(alloc);
+    for node in nodes {
+        ids.push(node.id)?;
     }
-}
-
-// The columns of the input: none, where there is no input.
-fn columns_of(input: Option<&Node>) -> &[Column]
-    ensures columns { result.now ≡ columns_in (columns_of (option_to_list (option_copied input.entry))) 0 }
-    ensures schema { 1 ≤ length result.now → IsSchema result.now }
-{
-    match input {
-        None => &[],
-        Some(input) => input.schema.columns(),
-    }
+    Ok(Inputs::of(ids))
 }
 
 // The kind of a node, and the columns that it gives.
@@ -157,22 +151,24 @@ struct Typed {
     schema: Schema,
 }
 
-// What a node is that says this, over an input with these columns, or over none.
+// What a node is that says this, over these inputs.
 fn type_text(
     alloc: Global,
     text: NodeText<'_>,
-    columns: &[Column],
+    inputs: &[&Node],
 ) -> Result<Typed, Stop<SchemaCause>>
     requires kept { KeepsText (text_seen text) }
-    requires schema { 1 ≤ length columns.now → IsSchema columns.now }
-    requires ints { All IsInt columns.now }
-    ensures typed { GivesView (λ t. (t.kind, t.schema)) result (typed_text (text_seen text.entry) (columns.now ∷ [])) }
-    ensures made { IfOk result (λ t. IsTyped columns.now t.kind t.schema) }
+    requires count { length inputs.now ≡ inputs_needed (text_seen text) }
+    requires ints { All (λ n. All IsInt n.now.schema) inputs.now }
+    ensures typed { GivesView (λ t. (t.kind, t.schema)) result (typed_text (text_seen text.entry)
+        (columns_of (map (λ n. n.now) inputs.now))) }
+    ensures over { IfOk result (λ t. IsOver t.kind (columns_of (map (λ n. n.now) inputs.now)) t.schema) }
+    ensures ints { IfOk result (λ t. All IsInt t.schema) }
 {
     match text {
         NodeText::Source(source) => type_source(alloc, source),
-        NodeText::Select(test) => type_select(alloc, test, columns),
-        NodeText::Project(texts) => type_project(alloc, columns, texts),
+        NodeText::Select(test) => type_select(alloc, test, &inputs[0].schema),
+        NodeText::Project(texts) => type_project(alloc, texts, &inputs[0].schema),
     }
 }
 
@@ -180,7 +176,8 @@ fn type_source(alloc: Global, source: &RawSource) -> Result<Typed, Stop<SchemaCa
     requires kept { KeepsSource source.now }
     requires built { IsTrue (is_built_source source.now) }
     ensures typed { GivesView (λ t. (t.kind, t.schema)) result (typed_source source.now) }
-    ensures made { IfOk result (λ t. (others : List ColumnValue) → IsTyped others t.kind t.schema) }
+    ensures over { IfOk result (λ t. IsOver t.kind [] t.schema) }
+    ensures ints { IfOk result (λ t. All IsInt t.schema) }
 {
     let columns = int_columns(alloc, source.columns.items())?;
     let (key, grouped) = source_cols(alloc, &columns, source)?;
@@ -275,14 +272,14 @@ fn source_cols(
     Ok((key, grouped))
 }
 
-fn type_select(alloc: Global, test: Expr, columns: &[Column]) -> Result<Typed, Stop<SchemaCause>>
-    requires schema { 1 ≤ length columns.now → IsSchema columns.now }
-    requires ints { All IsInt columns.now }
-    ensures typed { GivesView (λ t. (t.kind, t.schema)) result (typed_select test columns.now) }
-    ensures made { IfOk result (λ t. IsTyped columns.now t.kind t.schema) }
+fn type_select(alloc: Global, test: Expr, input: &Schema) -> Result<Typed, Stop<SchemaCause>>
+    requires { All IsInt input.now }
+    ensures typed { GivesView (λ t. (t.kind, t.schema)) result (typed_select test input.now) }
+    ensures over { IfOk result (λ t. IsOver t.kind (input.now ∷ []) t.schema) }
+    ensures ints { IfOk result (λ t. All IsInt t.schema) }
 {
-    find_column(alloc, columns, &test.column)?;
-    let columns = copied(alloc, columns)?;
+    find_column(alloc, input.columns(), &test.column)?;
+    let columns = copied(alloc, input.columns())?;
     Ok(Typed {
         kind: Kind::Select { test },
         schema: Schema::of(columns),
@@ -312,18 +309,15 @@ fn find_column(alloc: Global, columns: &[Column], name: &Text) -> Result<(), Sto
     Err(Stop::Fault(SchemaCause::UnknownColumn { column }))
 }
 
-fn type_project(
-    alloc: Global,
-    columns: &[Column],
-    texts: &[Text],
-) -> Result<Typed, Stop<SchemaCause>>
+fn type_project(alloc: Global, texts: &[Text], input: &Schema) -> Result<Typed, Stop<SchemaCause>>
     requires some { 1 ≤ length texts.now }
     requires few { length texts.now ≤ 64 }
-    requires ints { All IsInt columns.now }
-    ensures typed { GivesView (λ t. (t.kind, t.schema)) result (typed_project texts.now columns.now) }
-    ensures made { IfOk result (λ t. IsTyped columns.now t.kind t.schema) }
+    requires ints { All IsInt input.now }
+    ensures typed { GivesView (λ t. (t.kind, t.schema)) result (typed_project texts.now input.now) }
+    ensures over { IfOk result (λ t. IsOver t.kind (input.now ∷ []) t.schema) }
+    ensures ints { IfOk result (λ t. All IsInt t.schema) }
 {
-    let taken = projection(alloc, columns, texts)?;
+    let taken = projection(alloc, input.columns(), texts)?;
     Ok(Typed {
         kind: Kind::Project {
             from: Cols::of(taken.places),

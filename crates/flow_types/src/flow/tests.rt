@@ -1,6 +1,9 @@
 // Flows, each with its answer: the nodes from the source on and the root's columns, or the first fault.
+ghost use Rattle.std.specs.Prelude.{IsSome};
+ghost use Rattle.flow_types.specs.Flows.{node_of};
+
 use super::*;
-use crate::{SchemaCause, is_built};
+use crate::{SchemaCause, Source, is_built, tree_laws};
 use std::test::Fail;
 use workflow_file::read_flow;
 
@@ -559,5 +562,113 @@ fn the_first_of_two_faults_is_told(rt: HostRuntime) -> Result<(), Fail> {
         let got = answer(rt.alloc(), text.as_bytes())?;
         assert_eq!(rt; got.as_str(), *want, "for {}", text.as_str());
     }
+    Ok(())
+}
+
+// What a flow tells of its nodes, one after the other.
+fn told_of_all(alloc: Global, flow: &Flow) -> Result<String, Fail> {
+    tree_laws();
+    let mut lines = format!(in alloc; "{} nodes", flow.count())?;
+    for node in flow.nodes() {
+        let line = told_of(alloc, flow, node.id)?;
+        lines.push_str("; ")?;
+        lines.push_str(line.as_str())?;
+    }
+    Ok(lines)
+}
+
+// What a flow tells of a node: its rank, number, name and kind, its inputs, its columns, and how much it declares.
+fn told_of(alloc: Global, flow: &Flow, node: NodeId) -> Result<String, Fail>
+    requires { IsSome (node_of flow.now node) }
+{
+    let kind = told_of_kind(alloc, flow.kind(node))?;
+    let mut line = format!(in alloc;
+        "{}. {} {} {}",
+        flow.rank(node),
+        node.0,
+        flow.name(node),
+        kind.as_str()
+    )?;
+    for input in flow.inputs(node) {
+        line.push_str(format!(in alloc; " over {}", input.0)?.as_str())?;
+    }
+    for column in flow.schema(node).columns() {
+        line.push_str(" ")?;
+        line.push_str(column.name.as_str())?;
+    }
+    let declared = flow.declared(node).items().len();
+    line.push_str(format!(in alloc; " {}", declared)?.as_str())?;
+    Ok(line)
+}
+
+fn told_of_kind(alloc: Global, kind: &Kind) -> Result<String, Fail> {
+    match kind {
+        Kind::Source(source) => told_of_source(alloc, source),
+        Kind::Select { test } => Ok(format!(in alloc; "select {}", test.column.as_str())?),
+        Kind::Project { from } => Ok(format!(in alloc;
+            "project{}",
+            places(alloc, from)?.as_str()
+        )?),
+    }
+}
+
+fn told_of_source(alloc: Global, source: &Source) -> Result<String, Fail> {
+    let key = cols(alloc, &source.key)?;
+    let grouped = cols(alloc, &source.grouped)?;
+    Ok(format!(in alloc;
+        "{} {}{}{} key{} grouped{}",
+        source.file.as_str(),
+        if source.packed { "packed" } else { "csv" },
+        if source.any_header { " any" } else { "" },
+        if source.seq { " seq" } else { " set" },
+        key.as_str(),
+        grouped.as_str()
+    )?)
+}
+
+fn cols(alloc: Global, cols: &Option<Cols>) -> Result<String, Fail> {
+    match cols {
+        None => Ok(String::from_str(alloc, " none")?),
+        Some(cols) => places(alloc, cols),
+    }
+}
+
+fn places(alloc: Global, cols: &Cols) -> Result<String, Fail> {
+    let mut line = String::new(alloc);
+    for place in cols.places() {
+        line.push_str(format!(in alloc; " {}", *place)?.as_str())?;
+    }
+    Ok(line)
+}
+
+#[test]
+fn a_flow_tells_of_each_node(rt: HostRuntime) -> Result<(), Fail> {
+    let text = flow_text(
+        rt.alloc(),
+        "q",
+        &[("a", "'n int','m int'],key=['m','n'],grouped=['m'")],
+        &[
+            ("s", "p", "k > 1"),
+            ("p", "a", "'m as k','n'"),
+            ("q", "s", "'n','k'"),
+        ],
+    )?;
+    if text.len() > 65536 {
+        return Err(Fail::new("longer than a flow file"));
+    }
+    let raw = read_flow(rt.alloc(), text.as_bytes())?;
+    if !is_built(&raw) {
+        return Err(Fail::new("not built"));
+    }
+    let Ok(flow) = type_flow(rt.alloc(), &raw) else {
+        return Err(Fail::new("no flow"));
+    };
+    let got = told_of_all(rt.alloc(), &flow)?;
+    let want =
+        "4 nodes; 0. 0 a a.csv csv seq key 1 0 grouped 1 n m 0; 1. 2 p project 1 0 over 0 k n 0; \
+        2. 1 s select k over 2 k n 0; 3. 3 q project 1 0 over 1 n k 0";
+    assert_eq!(rt; got.as_str(), want, "each node");
+    assert_eq!(rt; flow.root().0, 3, "the root");
+    assert!(rt; flow.key().is_none(), "no key");
     Ok(())
 }

@@ -1,9 +1,8 @@
-use Rattle.std.proofs.Common.{◌≡◌, ◌<◌, ◌≤◌, sym, ap, ◌∙◌, length, IfSome, below_more, arith}
-use Rattle.std.proofs.lemmas.List.{map-append}
+use Rattle.std.proofs.Common.{◌≡◌, ◌<◌, ◌≤◌, sym, ap, ◌∙◌, length, All, below_more, arith}
 use Rattle.std.proofs.lemmas.List.Elements.{All-push}
 use Rattle.std.proofs.lemmas.Result.{err_from_is_err_and}
 use Rattle.flow_types.specs.Graph.{names_of, needs_of}
-use Rattle.flow_types.proofs.OneInput.{length-needs}
+use Rattle.flow_types.proofs.Needs.{length-needs}
 use Rattle.flow_types.proofs.Links.{input_ends, inputs_all, links_more}
 use Rattle.flow_types.proofs.graph.links_of.Goals as goal
 
@@ -19,9 +18,9 @@ loop-place-preserved c =
     let some : length (needs_of c.args.raw.now) ≡ length c.args.places.now = length-needs c.args.raw.now ∙ sym (ap length c.requires.names) in
     let within : c.loop-place.place < length (needs_of c.args.raw.now) = rw (some, ← c.len-place-end.ensures) c.loop-place-test.true in
     record {
-      links = rw (c.in_ok-push.ensures.items, map-append, c.loop-place.invariant.links) (sym (links_more (names_of c.args.raw.now) (needs_of c.args.raw.now) c.loop-place.place c.in_ok-link_of.field-0 within (rw c.requires.names at c.in_ok-link_of.ensures.link)));
+      links = rw (c.in_ok-push.ensures.items, c.loop-place.invariant.links) (sym (links_more (names_of c.args.raw.now) (needs_of c.args.raw.now) c.loop-place.place c.in_ok-link_of.field-0 within (rw c.requires.names at c.in_ok-link_of.ensures.link)));
       there = below_more _ _ c.loop-place.invariant.there (rw c.requires.names at c.in_ok-link_of.ensures.there);
-      within = rw c.in_ok-push.ensures.items (All-push (λ link. IfSome link (λ input. input < length c.args.places.now)) c.loop-place.links.items c.in_ok-link_of.field-0 c.loop-place.invariant.within c.in_ok-link_of.ensures.within);
+      within = rw c.in_ok-push.ensures.items (All-push (λ link. All (λ input. input < length c.args.places.now) link) c.loop-place.links.items c.in_ok-link_of.field-0 c.loop-place.invariant.within c.in_ok-link_of.ensures.within);
       len = omega (arith, c.in_ok-push.ensures.len);
     }
 

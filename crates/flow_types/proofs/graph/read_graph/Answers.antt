@@ -1,7 +1,9 @@
-use Rattle.std.proofs.Common.{◌≡◌, ◌<◌, ◌≤◌, ◌+◌, ◌∙◌, length, ap, sym, arith}
-use Rattle.flow_types.specs.Graph.{names_of, used_once, links_in}
-use Rattle.flow_types.proofs.OneInput.{length-names}
-use Rattle.flow_types.proofs.Once.{tree_once, few_in_tree}
+use Rattle.std.proofs.Common.{◌≡◌, ◌<◌, ◌≤◌, ◌+◌, ◌-◌, ◌∙◌, ℕ, length, vec_len, ap, sym, subst, arith}
+use Rattle.flow_types.specs.Trees.{IsWhole}
+use Rattle.flow_types.specs.Graph.{names_of, used_once}
+use Rattle.flow_types.proofs.Needs.{length-names}
+use Rattle.flow_types.proofs.Once.{tree_once, few_below}
+use Rattle.flow_types.proofs.Whole.{flow_whole}
 use Rattle.flow_types.proofs.graph.read_graph.Goals as goal
 
 pub returns-clause-once : goal.returns-clause-once
@@ -10,11 +12,19 @@ returns-clause-once c =
     let small : c.in_ok-root.root < length c.in_ok-links.links.items = omega (arith, c.in_ok-root.ensures.within, c.in_ok-links.ensures.len, c.in_ok-links.links.ok.0) in
     tree_once c.in_ok-root.root c.in_ok-links.links.items used small c.in_ok-links.ensures.within
 
+pub returns-clause-whole : goal.returns-clause-whole
+returns-clause-whole c =
+    let used = rw c.deref-2.ensures.value at c.in_ok-used_once.ensures in
+    let small : c.in_ok-root.root < length c.in_ok-links.links.items = omega (arith, c.in_ok-root.ensures.within, c.in_ok-links.ensures.len, c.in_ok-links.links.ok.0) in
+    let count : vec_len c.in_ok-links.links ≡ length c.in_ok-links.links.items = omega (arith, c.in_ok-links.links.ok.0) in
+    subst (λ (n : ℕ). IsWhole c.in_ok-links.links.items (n - 1) c.in_ok-root.root) (sym count)
+    (flow_whole c.in_ok-root.root c.in_ok-links.links.items used small c.in_ok-links.ensures.within)
+
 pub returns-clause-few : goal.returns-clause-few
 returns-clause-few c =
     let used = rw c.deref-2.ensures.value at c.in_ok-used_once.ensures in
     let small : c.in_ok-root.root < length c.in_ok-links.links.items = omega (arith, c.in_ok-root.ensures.within, c.in_ok-links.ensures.len, c.in_ok-links.links.ok.0) in
-    let few = few_in_tree c.in_ok-root.root c.in_ok-links.links.items used small c.in_ok-links.ensures.within in
+    let few = few_below c.in_ok-root.root c.in_ok-links.links.items used small c.in_ok-links.ensures.within (length c.in_ok-links.links.items - 1) in
     let count : length c.in_ok-links.links.items ≡ length c.in_ok-places.places = omega (arith, c.in_ok-links.ensures.len, c.in_ok-links.links.ok.0) in
     let names : length c.in_ok-places.places ≡ length (names_of c.args.raw.now) = ap length (c.in_ok-places.ensures.names ∙ rw c.deref.ensures.value c.in_ok-names.ensures) in
     let all = length-names c.args.raw.now in

@@ -1,0 +1,173 @@
+-- The inputs that a node names.
+use Rattle.std.proofs.Common.{◌≡◌, ℕ, zero, suc, ◌+◌, ◌-◌, ◌<◌, ◌≤◌, List, [], ◌∷◌, length, map, filter_map, get_or, codes, bytes_eq, Bool, true, false, is_some, is_none, refl, ap, sym, ◌∙◌, ◌⊎◌, inl, inr, Option, Some, None, option_to_list, option_map, option_and_then, slice_get, IfSome, Ok, arith}
+use Rattle.std.specs.List.{list_all}
+use Rattle.std.proofs.lemmas.Bool.{and_parts, cases_Bool, both_ways}
+use Rattle.std.proofs.lemmas.List.Folds.{list_all_at}
+use Rattle.std.proofs.lemmas.List.{append-nil, length-map, length-append, get_or-map, get_or_append_left, get_or-append-add, get_or_past}
+use Rattle.std.proofs.lemmas.Slice.Eq.{bytes_eq-Decides}
+use Rattle.std.proofs.lemmas.Option.{same_Some, slice_get_within, slice_get-get_or}
+use Rattle.workflow_file.specs.declared.raw.RawSource.{RawSource}
+use Rattle.workflow_file.specs.declared.raw.RawNode.{RawNode}
+use Rattle.workflow_file.specs.declared.raw.RawFlow.{RawFlow}
+use Rattle.tuple_schema.specs.Texts.{is_among}
+use Rattle.workflow_file.specs.Nodes.{keys_of}
+use Rattle.workflow_file.specs.Kept.{KeepsNode, KeepsRules}
+use Rattle.flow_types.specs.Built.{is_built_node, is_built}
+use Rattle.flow_types.specs.Graph.{input_names, names_of, needs_of, links_of, inputs_exist}
+use Rattle.flow_types.specs.Trees.{inputs_below, IsWhole}
+use Rattle.flow_types.proofs.Whole.{whole_inputs}
+use Rattle.flow_types.proofs.Links.{inputs_counted}
+use Rattle.flow_types.specs.NodeTexts.{NodeText, source, select, project, text_of, text_at, inputs_needed}
+use Rattle.plain_where.specs.declared.expr.Expr.{Expr}
+use Rattle.flow_types.proofs.KeptTexts.{all_pass}
+use Rattle.plain_where.specs.Texts.{expression_of}
+
+-- the kinds that are built have no other input
+no_other_input : (kind : List ℕ) → (kind ≡ codes "select") ⊎ (kind ≡ codes "project")
+    → (is_among (keys_of kind) (codes "left") ≡ false) × (is_among (keys_of kind) (codes "right") ≡ false) × (is_among (keys_of kind) (codes "inputs") ≡ false)
+unfolding keys_of
+no_other_input kind (inl is) = rw is (refl, refl, refl)
+no_other_input kind (inr is) = rw is (refl, refl, refl)
+
+kind_is : (n : RawNode) → is_built_node n ≡ true → (n.kind ≡ codes "select") ⊎ (n.kind ≡ codes "project")
+kind_is n built =
+    elim (cases_Bool (bytes_eq n.kind (codes "select"))) [
+      | inl same ↦ inl ((bytes_eq-Decides n.kind (codes "select")).0 same)
+      | inr other ↦ elim (cases_Bool (bytes_eq n.kind (codes "project"))) [
+        | inl same ↦ inr ((bytes_eq-Decides n.kind (codes "project")).0 same)
+        | inr neither ↦ let none : false ≡ true = rw (other, neither) at (and_parts (is_none n.declare) _ built).1 in absurd (cc)
+      ]
+    ]
+
+is_absent : {X : Type 0} (o : Option X) → is_some o ≡ false → o ≡ None
+is_absent None absent = refl
+is_absent (Some x) absent = absurd (cc)
+
+abbrev none_of : {X : Type 0} → X → List (List ℕ)
+none_of x = []
+
+nothing_at : {X : Type 0} (xs : List X) (place : ℕ) → get_or (map none_of xs) place [] ≡ []
+nothing_at [] place = refl
+nothing_at (x ∷ xs) zero = refl
+nothing_at (x ∷ xs) (suc place) = nothing_at xs place
+
+has_input : (kind : List ℕ) → (kind ≡ codes "select") ⊎ (kind ≡ codes "project") → is_among (keys_of kind) (codes "input") ≡ true
+unfolding keys_of
+has_input kind (inl is) = rw is refl
+has_input kind (inr is) = rw is refl
+
+one_of : (o : Option (List ℕ)) → is_some o ≡ true → length (option_to_list o) ≡ 1
+one_of None some = absurd (cc)
+one_of (Some name) some = refl
+
+-- so such a node names its input alone
+pub names_one : (n : RawNode) → KeepsNode n → is_built_node n ≡ true → length (input_names n) ≡ 1
+names_one n keeps built =
+    let none = no_other_input n.kind (kind_is n built) in
+    let left : n.left ≡ None = is_absent n.left (keeps.left.there ∙ none.0) in
+    let right : n.right ≡ None = is_absent n.right (keeps.right.there ∙ none.1) in
+    let inputs : n.inputs ≡ None = is_absent n.inputs (keeps.inputs.there ∙ none.2) in
+    rw (left, right, inputs, append-nil) (one_of n.input (keeps.input.there ∙ has_input n.kind (kind_is n built)))
+
+pub needs_source : (flow : RawFlow) (place : ℕ) → place < length flow.sources → get_or (needs_of flow) place [] ≡ []
+needs_source flow place h =
+    let nothing : List (List (List ℕ)) = map (λ s. []) flow.sources in
+    let within : place < length nothing = rw length-map h in
+    get_or_append_left nothing (map input_names flow.nodes) [] place within ∙ nothing_at flow.sources place
+
+pub needs_behind : (flow : RawFlow) (place k : ℕ) → place ≡ length flow.sources + k → get_or (needs_of flow) place [] ≡ get_or (map input_names flow.nodes) k []
+needs_behind flow place k is =
+    let nothing : List (List (List ℕ)) = map (λ s. []) flow.sources in
+    let same : place ≡ length nothing + k = rw length-map is in
+    rw same (get_or-append-add nothing (map input_names flow.nodes) k [])
+
+pub needs_past : (flow : RawFlow) (place k : ℕ) → place ≡ length flow.sources + k → length flow.nodes ≤ k → get_or (needs_of flow) place [] ≡ []
+needs_past flow place k is h =
+    let past : length (map input_names flow.nodes) ≤ k = rw length-map h in
+    needs_behind flow place k is ∙ get_or_past (map input_names flow.nodes) k [] past
+
+pub needs_node : (flow : RawFlow) (place k : ℕ) (n : RawNode) → place ≡ length flow.sources + k → k < length flow.nodes → n ≡ get_or flow.nodes k n
+    → get_or (needs_of flow) place [] ≡ input_names n
+needs_node flow place k n is h item = needs_behind flow place k is ∙ get_or-map input_names flow.nodes k n [] h ∙ ap input_names (sym item)
+
+pub length-needs : (flow : RawFlow) → length (needs_of flow) ≡ length (names_of flow)
+length-needs flow = simp (length-append, length-map)
+
+pub length-names : (flow : RawFlow) → length (names_of flow) ≡ length flow.sources + length flow.nodes
+length-names flow = simp (length-append, length-map)
+
+pub count_links : (flow : RawFlow) → length (links_of flow) ≡ length flow.sources + length flow.nodes
+count_links flow =
+    let all : length (links_of flow) ≡ length (needs_of flow) = rw length-map refl in
+    all ∙ (length-needs flow ∙ length-names flow)
+
+-- What a node says needs as many inputs as it names.
+
+select_one : (o : Option Expr) (text : NodeText) → option_map select o ≡ Some text → inputs_needed text ≡ 1
+select_one None text is = absurd (cc)
+select_one (Some test) text is = let same : select test ≡ text = cc in rw (← same) refl
+
+project_one : (o : Option (List (List ℕ))) (text : NodeText) → option_map project o ≡ Some text → inputs_needed text ≡ 1
+project_one None text is = absurd (cc)
+project_one (Some texts) text is = let same : project texts ≡ text = cc in rw (← same) refl
+
+needed_one : (n : RawNode) (text : NodeText) → text_of n ≡ Some text → inputs_needed text ≡ 1
+needed_one n text is =
+    elim (cases_Bool (bytes_eq n.kind (codes "select"))) [
+      | inl same ↦ select_one (option_and_then expression_of n.test) text (rw same at is)
+      | inr other ↦ elim (cases_Bool (bytes_eq n.kind (codes "project"))) [
+        | inl same ↦ project_one n.columns text (rw (other, same) at is)
+        | inr neither ↦ let none : None ≡ Some text = rw (other, neither) at is in absurd (cc)
+      ]
+    ]
+
+past_end : {X : Type 0} (xs : List X) (k : ℕ) → slice_get xs k ≡ None → length xs ≤ k
+past_end [] k none = omega arith
+past_end (x ∷ xs) zero none = absurd (cc)
+past_end (x ∷ xs) (suc k) none = let rest = past_end xs k none in omega arith
+
+module _ (raw : RawFlow) (keeps : KeepsRules raw) (built : is_built raw ≡ true) (place : ℕ) (text : NodeText) where
+  at_source : (s : RawSource) → slice_get raw.sources place ≡ Some s → text_at raw place ≡ Some text → length (get_or (needs_of raw) place []) ≡ inputs_needed text
+  at_source s at says =
+      let same : source s ≡ text = same_Some _ _ (rw at at says) in
+      rw (← same, needs_source raw place (slice_get_within raw.sources place s at)) refl
+
+  at_node : (n : RawNode) → slice_get raw.sources place ≡ None → slice_get raw.nodes (place - length raw.sources) ≡ Some n → text_of n ≡ Some text
+      → length (get_or (needs_of raw) place []) ≡ inputs_needed text
+  at_node n past at says =
+      let k : ℕ = place - length raw.sources in
+      let h = slice_get_within raw.nodes k n at in
+      let item : n ≡ get_or raw.nodes k n = same_Some _ _ (sym at ∙ slice_get-get_or raw.nodes k n h) in
+      let kept : KeepsNode n = rw item (keeps.nodes k n h) in
+      let nodes_built : list_all is_built_node raw.nodes ≡ true = (and_parts _ _ (and_parts _ _ built).1).1 in
+      let fine : is_built_node n ≡ true = rw item (all_pass is_built_node raw.nodes k n nodes_built h) in
+      let beyond = past_end raw.sources place past in
+      ap length (needs_node raw place k n (omega arith) h item) ∙ (names_one n kept fine ∙ sym (needed_one n text says))
+
+  behind_sources : (o : Option RawNode) → slice_get raw.sources place ≡ None → slice_get raw.nodes (place - length raw.sources) ≡ o → option_and_then text_of o ≡ Some text
+      → length (get_or (needs_of raw) place []) ≡ inputs_needed text
+  behind_sources None past at says = absurd (cc)
+  behind_sources (Some n) past at says = at_node n past at says
+
+  pub needs_count : text_at raw place ≡ Some text → length (get_or (needs_of raw) place []) ≡ inputs_needed text
+  needs_count says = by (slice_get raw.sources place) refl
+    where
+      by : (o : Option RawSource) → slice_get raw.sources place ≡ o → length (get_or (needs_of raw) place []) ≡ inputs_needed text
+      by (Some s) at = at_source s at says
+      by None past = behind_sources (slice_get raw.nodes (place - length raw.sources)) past refl (rw past at says)
+
+-- as many as its tree has
+pub count_below : (raw : RawFlow) (links : List (List ℕ)) (depth place n : ℕ) → KeepsRules raw → is_built raw ≡ true → inputs_exist (names_of raw) (needs_of raw) ≡ Ok tt
+    → links ≡ links_of raw → place < length links → IsWhole links depth place → n ≡ length (inputs_below links depth place) → IfSome (text_at raw place) (λ text. n ≡ inputs_needed text)
+count_below raw links depth place n keeps built there are h whole count = by (text_at raw place) refl
+  where
+    by : (o : Option NodeText) → text_at raw place ≡ o → IfSome (text_at raw place) (λ text. n ≡ inputs_needed text)
+    by None none = rw none tt
+    by (Some text) says =
+        let total : length links ≡ length (needs_of raw) = ap length are ∙ rw length-map refl in
+        let within : place < length (needs_of raw) = omega arith in
+        let here = ap length (whole_inputs links depth place whole) in
+        let linked = ap (λ ls. length (get_or ls place [])) are in
+        let named = inputs_counted (names_of raw) (needs_of raw) place within there in
+        let needed = needs_count raw keeps built place text says in
+        rw says (count ∙ (here ∙ (linked ∙ (named ∙ needed))))
