@@ -2,18 +2,16 @@
 ghost use Rattle.std.specs.Prelude.{◌≡◌, ◌≢◌, ◌≤◌, ◌<◌, length, bytes_eq, true, Some, IfOk, IfSome, IsOk};
 ghost use Rattle.tuple_schema.specs.Tuples.{lent};
 ghost use Rattle.tuple_schema.specs.Schemas.{IsSchema};
-ghost use Rattle.expr_lang.specs.Trees.{tree_of, IsPlain};
-ghost use Rattle.expr_lang.specs.Values.{Meaning, units, bytes, truly, meaning, meaning_in, meaning_at, place_of, joined_by, followed_by, opposite_number, size, with_places, plus, minus, times, over, first_of, choice, truth_in, is_nothing, is_something, decided, byte_count, value_in, value_of, truth_of};
-ghost use Rattle.expr_lang.specs.Values.{opposite as opposite_truth};
-ghost use Rattle.expr_lang.specs.Views.{seen, seen_number, IsShort};
+ghost use Rattle.expr_lang.specs.Trees.{joined, coalesced, chosen, tree_of, IsPlain};
+ghost use Rattle.expr_lang.specs.Values.{Meaning, units, bytes, truly, meaning, meaning_in, meaning_at, place_of, joined_by, followed_by, plus, minus, times, over, first_of, choice, truth_in, is_nothing, value_in, value_of, truth_of};
+ghost use Rattle.expr_lang.specs.Views.{seen, seen_number, applied, IsShort};
 ghost use Rattle.tuple_schema.specs.Tuples.{IsShort as IsShortValue};
 
-use crate::arithmetic::{
-    absolute, difference, number_of, opposite, product, quotient, rescaled, sum,
-};
+use crate::arithmetic::{difference, number_of, product, quotient, sum};
 use crate::held::{Held, compared};
-use crate::logic::{Truth, decided};
+use crate::logic::Truth;
 use crate::number::Number;
+use crate::unary::Unary;
 use expr_grammar::{Expr, Operator};
 use std::alloc::Global;
 use tuple_schema::{Column, ColumnKind, FieldRef, Fields, Memory, Schema, Text, Value};
@@ -174,76 +172,94 @@ fn settled(operator: Operator, left: &Held<'_>) -> Option<Truth>
     }
 }
 
-// The opposite truth; what is no truth is Unknown.
-fn denied(part: &Held<'_>) -> Held<'static>
-    ensures seen { seen result ≡ truly (opposite_truth (truth_in (seen part.now))) }
-    ensures short { IsShort (seen result) }
+// A part with an operation on it.
+#[cycle(evaluation)]
+fn changed<'a, F: Fields>(
+    alloc: Global,
+    operation: Unary,
+    a: &'a Expr,
+    columns: &[Column],
+    row: &'a F,
+) -> Result<Held<'a>, Memory>
+    ensures seen { IfOk result (λ h. seen h ≡
+        applied operation (meaning columns.now (F.tuple row.now) (tree_of a.now))) }
+    ensures short { IfOk result (λ h. IsShort (seen h)) }
+    ensures plain { IsPlain (tree_of a.now) → IsOk result }
 {
-    Held::Truth(part.truth().not())
+    let part = evaluate(alloc, a, columns, row)?;
+    Ok(operation.apply(&part))
 }
 
-// Whether it is Null.
-fn null_test(part: &Held<'_>) -> Held<'static>
-    ensures seen { seen result ≡ truly (decided (is_nothing (seen part.now))) }
-    ensures short { IsShort (seen result) }
+// Two parts with an operator between them. The second is looked at only where the first leaves the answer open.
+#[cycle(evaluation)]
+fn infix<'a, F: Fields>(
+    alloc: Global,
+    operator: Operator,
+    a: &'a Expr,
+    b: &'a Expr,
+    columns: &[Column],
+    row: &'a F,
+) -> Result<Held<'a>, Memory>
+    ensures seen { IfOk result (λ h. seen h ≡
+        meaning columns.now (F.tuple row.now) (joined operator (tree_of a.now) (tree_of b.now))) }
+    ensures short { IfOk result (λ h. IsShort (seen h)) }
+    ensures plain { IsPlain (joined operator (tree_of a.now) (tree_of b.now)) → IsOk result }
 {
-    Held::Truth(decided(part.is_null()))
+    let left = evaluate(alloc, a, columns, row)?;
+    if let Some(truth) = settled(operator, &left) {
+        return Ok(Held::Truth(truth));
+    }
+    let right = evaluate(alloc, b, columns, row)?;
+    joined_by(alloc, operator, &left, &right)
 }
 
-// Whether it isn't Null.
-fn value_test(part: &Held<'_>) -> Held<'static>
-    ensures seen { seen result ≡ truly (decided (is_something (seen part.now))) }
-    ensures short { IsShort (seen result) }
+// The first of two parts that isn't Null, or Null.
+#[cycle(evaluation)]
+fn first_value<'a, F: Fields>(
+    alloc: Global,
+    a: &'a Expr,
+    b: &'a Expr,
+    columns: &[Column],
+    row: &'a F,
+) -> Result<Held<'a>, Memory>
+    ensures seen { IfOk result (λ h. seen h ≡
+        meaning columns.now (F.tuple row.now) (coalesced (tree_of a.now) (tree_of b.now))) }
+    ensures short { IfOk result (λ h. IsShort (seen h)) }
+    ensures plain { IsPlain (coalesced (tree_of a.now) (tree_of b.now)) → IsOk result }
 {
-    Held::Truth(decided(!part.is_null()))
-}
-
-// The number with its sign turned; what is no number is Null.
-fn negated(part: &Held<'_>) -> Held<'static>
-    ensures seen { seen result ≡ opposite_number (seen part.now) }
-    ensures short { IsShort (seen result) }
-{
-    match part {
-        Held::Number(x) => Held::of_number(opposite(*x)),
-        _ => Held::Null,
+    let first = evaluate(alloc, a, columns, row)?;
+    if first.is_null() {
+        evaluate(alloc, b, columns, row)
+    } else {
+        Ok(first)
     }
 }
 
-fn size(part: &Held<'_>) -> Held<'static>
-    ensures seen { seen result ≡ size (seen part.now) }
-    ensures short { IsShort (seen result) }
+// The second part where the first is True, else the third.
+#[cycle(evaluation)]
+fn branch<'a, F: Fields>(
+    alloc: Global,
+    c: &'a Expr,
+    a: &'a Expr,
+    b: &'a Expr,
+    columns: &[Column],
+    row: &'a F,
+) -> Result<Held<'a>, Memory>
+    ensures seen { IfOk result (λ h. seen h ≡
+        meaning columns.now (F.tuple row.now) (chosen (tree_of c.now) (tree_of a.now) (tree_of b.now))) }
+    ensures short { IfOk result (λ h. IsShort (seen h)) }
+    ensures plain { IsPlain (chosen (tree_of c.now) (tree_of a.now) (tree_of b.now)) → IsOk result }
 {
-    match part {
-        Held::Number(x) => Held::of_number(absolute(*x)),
-        _ => Held::Null,
+    let test = evaluate(alloc, c, columns, row)?;
+    match test.truth() {
+        Truth::True => evaluate(alloc, a, columns, row),
+        Truth::False => evaluate(alloc, b, columns, row),
+        Truth::Unknown => evaluate(alloc, b, columns, row),
     }
 }
 
-fn with_places(places: u8, part: &Held<'_>) -> Held<'static>
-    ensures seen { seen result ≡ with_places places (seen part.now) }
-    ensures short { IsShort (seen result) }
-{
-    match part {
-        Held::Number(x) => Held::of_number(rescaled(*x, places)),
-        _ => Held::Null,
-    }
-}
-
-// How many bytes a text has; what is no text is Null.
-fn byte_count(part: &Held<'_>) -> Held<'static>
-    requires { IsShort (seen part.now) }
-    ensures seen { seen result ≡ byte_count (seen part.now) }
-    ensures short { IsShort (seen result) }
-{
-    match part {
-        Held::Lent(text) => Held::of_number(number_of(text.len() as i64, 0)),
-        Held::Made(text) => Held::of_number(number_of(text.len() as i64, 0)),
-        _ => Held::Null,
-    }
-}
-
-/// The meaning of an expression in a row of these columns. Of two parts the second is looked at only
-/// where the first leaves the answer open.
+/// The meaning of an expression in a row of these columns.
+#[cycle(evaluation)]
 pub fn evaluate<'a, F: Fields>(
     alloc: Global,
     expr: &'a Expr,
@@ -258,37 +274,16 @@ pub fn evaluate<'a, F: Fields>(
         Expr::Number { units, places } => Ok(Held::of_number(number_of(*units, *places))),
         Expr::Text(text) => Ok(Held::Lent(text.as_str())),
         Expr::Column(name) => Ok(column(columns, name, row)),
-        Expr::Infix(operator, a, b) => {
-            let left = evaluate(alloc, a.get(), columns, row)?;
-            if let Some(truth) = settled(*operator, &left) {
-                return Ok(Held::Truth(truth));
-            }
-            let right = evaluate(alloc, b.get(), columns, row)?;
-            joined_by(alloc, *operator, &left, &right)
-        }
-        Expr::Not(a) => Ok(denied(&evaluate(alloc, a.get(), columns, row)?)),
-        Expr::Negated(a) => Ok(negated(&evaluate(alloc, a.get(), columns, row)?)),
-        Expr::IsNull(a) => Ok(null_test(&evaluate(alloc, a.get(), columns, row)?)),
-        Expr::IsNotNull(a) => Ok(value_test(&evaluate(alloc, a.get(), columns, row)?)),
-        Expr::Abs(a) => Ok(size(&evaluate(alloc, a.get(), columns, row)?)),
-        Expr::Length(a) => Ok(byte_count(&evaluate(alloc, a.get(), columns, row)?)),
-        Expr::Scale(a, places) => Ok(with_places(
-            *places,
-            &evaluate(alloc, a.get(), columns, row)?,
-        )),
-        Expr::Coalesce(a, b) => {
-            let first = evaluate(alloc, a.get(), columns, row)?;
-            if first.is_null() {
-                evaluate(alloc, b.get(), columns, row)
-            } else {
-                Ok(first)
-            }
-        }
-        Expr::If(c, a, b) => match evaluate(alloc, c.get(), columns, row)?.truth() {
-            Truth::True => evaluate(alloc, a.get(), columns, row),
-            Truth::False => evaluate(alloc, b.get(), columns, row),
-            Truth::Unknown => evaluate(alloc, b.get(), columns, row),
-        },
+        Expr::Infix(operator, a, b) => infix(alloc, *operator, a.get(), b.get(), columns, row),
+        Expr::Coalesce(a, b) => first_value(alloc, a.get(), b.get(), columns, row),
+        Expr::If(c, a, b) => branch(alloc, c.get(), a.get(), b.get(), columns, row),
+        Expr::Not(a) => changed(alloc, Unary::Not, a.get(), columns, row),
+        Expr::Negated(a) => changed(alloc, Unary::Negated, a.get(), columns, row),
+        Expr::IsNull(a) => changed(alloc, Unary::IsNull, a.get(), columns, row),
+        Expr::IsNotNull(a) => changed(alloc, Unary::IsNotNull, a.get(), columns, row),
+        Expr::Abs(a) => changed(alloc, Unary::Abs, a.get(), columns, row),
+        Expr::Length(a) => changed(alloc, Unary::Length, a.get(), columns, row),
+        Expr::Scale(a, places) => changed(alloc, Unary::Scale(*places), a.get(), columns, row),
     }
 }
 
