@@ -1,34 +1,11 @@
-ghost use Rattle.std.specs.Prelude.{◌≡◌, IfOk};
-
 use super::open_within;
+use crate::samples::orders;
 use crate::{CsvFault, CsvSource};
 use outside::MemoryDepot;
 use row_codec::FieldFault;
 use std::alloc::Global;
 use std::test::Fail;
-use tuple_schema::{Column, ColumnKind, Fields, Schema, Stop, Text, Tuple, Value};
-
-// id int, amt dec2?, name text?
-fn orders(alloc: Global) -> Result<Schema, Fail> {
-    let columns = vec![in alloc;
-        Column {
-            name: Text::of(alloc, "id")?,
-            kind: ColumnKind::Int,
-            nullable: false
-        },
-        Column {
-            name: Text::of(alloc, "amt")?,
-            kind: ColumnKind::Dec(2),
-            nullable: true
-        },
-        Column {
-            name: Text::of(alloc, "name")?,
-            kind: ColumnKind::Text,
-            nullable: true
-        },
-    ]?;
-    Ok(Schema::of(columns))
-}
+use tuple_schema::{Stop, Text, Tuple, Value};
 
 // A folder with one file of each kind.
 fn folder(alloc: Global) -> Result<MemoryDepot, Fail> {

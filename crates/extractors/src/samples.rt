@@ -1,0 +1,34 @@
+// Schemas of tests.
+ghost use Rattle.std.specs.Prelude.{◌≡◌, IfOk};
+
+use std::alloc::Global;
+use std::test::Fail;
+use tuple_schema::{Column, ColumnKind, Schema, Text};
+
+fn column(alloc: Global, name: &str, kind: ColumnKind, nullable: bool) -> Result<Column, Fail>
+    ensures name { IfOk result (λ c. c.name ≡ name.now) }
+    ensures kind { IfOk result (λ c. c.kind ≡ kind) }
+{
+    let name = Text::of(alloc, name)?;
+    Ok(Column {
+        name,
+        kind,
+        nullable,
+    })
+}
+
+// id int, amt dec2?, name text?
+pub(crate) fn orders(alloc: Global) -> Result<Schema, Fail> {
+    let id = column(alloc, "id", ColumnKind::Int, false)?;
+    let amt = column(alloc, "amt", ColumnKind::Dec(2), true)?;
+    let name = column(alloc, "name", ColumnKind::Text, true)?;
+    Ok(Schema::of(vec![in alloc; id, amt, name]?))
+}
+
+// t text, d dec1, n int?
+pub(crate) fn others(alloc: Global) -> Result<Schema, Fail> {
+    let text = column(alloc, "t", ColumnKind::Text, false)?;
+    let dec = column(alloc, "d", ColumnKind::Dec(1), false)?;
+    let int = column(alloc, "n", ColumnKind::Int, true)?;
+    Ok(Schema::of(vec![in alloc; text, dec, int]?))
+}
