@@ -56,8 +56,27 @@ fn gives(
     }
 }
 
+// A text, and its rows as they are printed, or its first fault as it is told.
+type Case = (&'static [u8], &'static str);
+
+// The first text that doesn't give what it is to give, behind the header.
+fn first_wrong(
+    alloc: Global,
+    schema: &Schema,
+    any_header: bool,
+    header: &[u8],
+    cases: &[Case],
+) -> Result<Option<&'static [u8]>, Fail> {
+    for (text, wanted) in cases {
+        if !gives(alloc, schema, any_header, header, text, wanted.as_bytes())? {
+            return Ok(Some(*text));
+        }
+    }
+    Ok(None)
+}
+
 // Whole files of orders.
-const FILES: [(&[u8], &str); 40] = [
+const HEADERS: [Case; 23] = [
     (b"", "header differs at column 1"),
     (b"\n\r\n", "header differs at column 1"),
     (b"id,amt,name", ""),
@@ -77,6 +96,22 @@ const FILES: [(&[u8], &str); 40] = [
     (b"id;amt;name\n", "header differs at column 1"),
     (b"id,amt,\"na\nme\"\n", "header differs at column 3"),
     (b"1,2.50,x\n", "header differs at column 1"),
+    (b"\r\r", "header differs at column 1"),
+    (b"id,amt,name,x,y\n1,,\n", "header differs at column 4"),
+    (b"id,\"\",name\n", "header differs at column 2"),
+    (b"id,amt,\n", "header differs at column 3"),
+];
+
+#[test]
+fn the_header_has_the_columns_names(rt: HostRuntime) -> Result<(), Fail> {
+    let schema = orders(rt.alloc())?;
+    let wrong = first_wrong(rt.alloc(), &schema, false, b"", &HEADERS)?;
+    assert_eq!(rt; wrong, None);
+    Ok(())
+}
+
+// Whole files of orders.
+const LINES: [Case; 17] = [
     (b"id,amt,name\n1,2.50,x\n2,,\n", "1,250,x;2,~,~;"),
     (b"id,amt,name\n1,2.50,x\n2,,", "1,250,x;2,~,~;"),
     (b"id,amt,name\r\n1,2.50,x\r\n2,,\r\n", "1,250,x;2,~,~;"),
@@ -101,19 +136,23 @@ const FILES: [(&[u8], &str); 40] = [
     (b"\xEF\xBB\xBF\"id\",amt,name\n1,,\n", "1,~,~;"),
     (b"\r\n\r\nid,amt,name\r\n\r\n1,,\r\n", "1,~,~;"),
     (b"id,amt,name\r\n1,,\n2,,\r3,,", "1,~,~;2,~,~;3,~,~;"),
-    (b"\r\r", "header differs at column 1"),
     (b"\xEF\xBB\xBF\n", "header differs at column 1"),
-    (b"id,amt,name,x,y\n1,,\n", "header differs at column 4"),
-    (b"id,\"\",name\n", "header differs at column 2"),
-    (b"id,amt,\n", "header differs at column 3"),
     (
         b"id,amt,name\n \n1,,\n",
         "row 1 has another number of fields",
     ),
 ];
 
-// The same, where any header will do.
-const ANY_HEADER: [(&[u8], &str); 16] = [
+#[test]
+fn lines_and_marks_are_those_of_csv(rt: HostRuntime) -> Result<(), Fail> {
+    let schema = orders(rt.alloc())?;
+    let wrong = first_wrong(rt.alloc(), &schema, false, b"", &LINES)?;
+    assert_eq!(rt; wrong, None);
+    Ok(())
+}
+
+// Whole files of orders, where any header will do.
+const ANY_HEADER: [Case; 16] = [
     (b"", "header differs at column 1"),
     (b"\n", "header differs at column 1"),
     (b"x\n1,2,a\n", "header differs at column 2"),
@@ -132,8 +171,16 @@ const ANY_HEADER: [(&[u8], &str); 16] = [
     (b"x,y,z\n1,,a\n,,\n", "row 2 column 1: empty field"),
 ];
 
+#[test]
+fn any_header_has_as_many_names(rt: HostRuntime) -> Result<(), Fail> {
+    let schema = orders(rt.alloc())?;
+    let wrong = first_wrong(rt.alloc(), &schema, true, b"", &ANY_HEADER)?;
+    assert_eq!(rt; wrong, None);
+    Ok(())
+}
+
 // What follows the header of orders.
-const ORDERS: [(&[u8], &str); 62] = [
+const COUNTS: [Case; 14] = [
     (b"1\n", "row 1 has another number of fields"),
     (b"1,2\n", "row 1 has another number of fields"),
     (b"1,2,a,\n", "row 1 has another number of fields"),
@@ -143,13 +190,30 @@ const ORDERS: [(&[u8], &str); 62] = [
     (b"1,,a\n2,\n", "row 2 has another number of fields"),
     (b"1,,a\n\n2,,b,\n", "row 2 has another number of fields"),
     (b"1,,a\n2\nx,,b\n", "row 2 has another number of fields"),
-    (b"1,,a\nx,,b\n2\n", "row 2 column 1: not a number"),
     (
         b"1,,a\n2,,b\n3,,c\n4,,\n5\n",
         "row 5 has another number of fields",
     ),
-    (b"1,,\"a\n2,,b\n", "1,~,a\n2,,b\n;"),
     (b"1,,a,\"\n", "row 1 has another number of fields"),
+    (b",\n", "row 1 has another number of fields"),
+    (b"1,,a,b,c,d,e,f\n", "row 1 has another number of fields"),
+    (
+        b"1,,a\n2,,b\n\"3,,c\"\n",
+        "row 3 has another number of fields",
+    ),
+];
+
+#[test]
+fn a_record_has_as_many_fields_as_there_are_columns(rt: HostRuntime) -> Result<(), Fail> {
+    let schema = orders(rt.alloc())?;
+    let wrong = first_wrong(rt.alloc(), &schema, false, b"id,amt,name\n", &COUNTS)?;
+    assert_eq!(rt; wrong, None);
+    Ok(())
+}
+
+// What follows the header of orders.
+const FAULTS: [Case; 29] = [
+    (b"1,,a\nx,,b\n2\n", "row 2 column 1: not a number"),
     (b",1,a\n", "row 1 column 1: empty field"),
     (b"x,1,a\n", "row 1 column 1: not a number"),
     (b" 7,1,a\n", "row 1 column 1: not a number"),
@@ -186,27 +250,6 @@ const ORDERS: [(&[u8], &str); 62] = [
     ),
     (b"1,,a\n2,,b\n3,1.5x,c\n", "row 3 column 2: not a number"),
     (b"1,,a\n,,\n,,\n", "row 2 column 1: empty field"),
-    (b"+7,-.5,a\n", "7,-50,a;"),
-    (b"-0,5.,\xC3\xA9\n", "0,500,é;"),
-    (b"\"12\",\"1.05\",\"a,b\"\n", "12,105,a,b;"),
-    (b"1,,\"a\"\"b\"\n", "1,~,a\"b;"),
-    (b"1,,\"a\nb\"\n", "1,~,a\nb;"),
-    (b"1,,\"\"\n", "1,~,~;"),
-    (b"1,,a\"b\n", "1,~,a\"b;"),
-    (b"1,,\"a\"b\n", "1,~,ab;"),
-    (b"1,, a \n", "1,~, a ;"),
-    (
-        b"9223372036854775807,-92233720368547758.08,x\n",
-        "9223372036854775807,-9223372036854775808,x;",
-    ),
-    (b"00000000000000000000000000001,,\n", "1,~,~;"),
-    (b"1,,a\n1,,a\n", "1,~,a;1,~,a;"),
-    (b",\n", "row 1 has another number of fields"),
-    (b"1,,a,b,c,d,e,f\n", "row 1 has another number of fields"),
-    (
-        b"1,,a\n2,,b\n\"3,,c\"\n",
-        "row 3 has another number of fields",
-    ),
     (b"\"\",1,a\n", "row 1 column 1: empty field"),
     (b"+,1,a\n", "row 1 column 1: not a number"),
     (b"1-,1,a\n", "row 1 column 1: not a number"),
@@ -226,6 +269,34 @@ const ORDERS: [(&[u8], &str); 62] = [
         b"1,,a\n2,,b\n3,,\xED\xA0\x80\n",
         "row 3 column 3: not UTF-8",
     ),
+];
+
+#[test]
+fn the_first_bad_field_of_a_record_has_the_fault(rt: HostRuntime) -> Result<(), Fail> {
+    let schema = orders(rt.alloc())?;
+    let wrong = first_wrong(rt.alloc(), &schema, false, b"id,amt,name\n", &FAULTS)?;
+    assert_eq!(rt; wrong, None);
+    Ok(())
+}
+
+// What follows the header of orders.
+const GOOD: [Case; 19] = [
+    (b"1,,\"a\n2,,b\n", "1,~,a\n2,,b\n;"),
+    (b"+7,-.5,a\n", "7,-50,a;"),
+    (b"-0,5.,\xC3\xA9\n", "0,500,é;"),
+    (b"\"12\",\"1.05\",\"a,b\"\n", "12,105,a,b;"),
+    (b"1,,\"a\"\"b\"\n", "1,~,a\"b;"),
+    (b"1,,\"a\nb\"\n", "1,~,a\nb;"),
+    (b"1,,\"\"\n", "1,~,~;"),
+    (b"1,,a\"b\n", "1,~,a\"b;"),
+    (b"1,,\"a\"b\n", "1,~,ab;"),
+    (b"1,, a \n", "1,~, a ;"),
+    (
+        b"9223372036854775807,-92233720368547758.08,x\n",
+        "9223372036854775807,-9223372036854775808,x;",
+    ),
+    (b"00000000000000000000000000001,,\n", "1,~,~;"),
+    (b"1,,a\n1,,a\n", "1,~,a;1,~,a;"),
     (b"1,,\"a\r\nb\"\r\n", "1,~,a\r\nb;"),
     (b"1,,\"\"\"\"\n", "1,~,\";"),
     (b"1,,\"a,\"\"b\"\",c\"\n", "1,~,a,\"b\",c;"),
@@ -237,8 +308,16 @@ const ORDERS: [(&[u8], &str); 62] = [
     (b"1,-0.05,\xE2\x82\xAC\n", "1,-5,€;"),
 ];
 
+#[test]
+fn good_fields_are_read(rt: HostRuntime) -> Result<(), Fail> {
+    let schema = orders(rt.alloc())?;
+    let wrong = first_wrong(rt.alloc(), &schema, false, b"id,amt,name\n", &GOOD)?;
+    assert_eq!(rt; wrong, None);
+    Ok(())
+}
+
 // What follows the header of others.
-const OTHERS: [(&[u8], &str); 16] = [
+const OTHERS: [Case; 16] = [
     (b",1.5,\n", ",15,~;"),
     (b"\"\",0,0\n", ",0,0;"),
     (b"a,,1\n", "row 1 column 2: empty field"),
@@ -270,41 +349,10 @@ const OTHERS: [(&[u8], &str); 16] = [
 ];
 
 #[test]
-fn each_text_has_its_content_or_its_first_fault(rt: HostRuntime) -> Result<(), Fail> {
-    let alloc = rt.alloc();
-    let orders = orders(alloc)?;
-    for (text, wanted) in FILES {
-        assert!(rt;
-            gives(alloc, &orders, false, b"", text, wanted.as_bytes())?,
-            "{text:?}"
-        );
-    }
-    for (text, wanted) in ANY_HEADER {
-        assert!(rt;
-            gives(alloc, &orders, true, b"", text, wanted.as_bytes())?,
-            "{text:?}"
-        );
-    }
-    for (text, wanted) in ORDERS {
-        assert!(rt;
-            gives(
-                alloc,
-                &orders,
-                false,
-                b"id,amt,name\n",
-                text,
-                wanted.as_bytes()
-            )?,
-            "{text:?}"
-        );
-    }
-    let others = others(alloc)?;
-    for (text, wanted) in OTHERS {
-        assert!(rt;
-            gives(alloc, &others, false, b"t,d,n\n", text, wanted.as_bytes())?,
-            "{text:?}"
-        );
-    }
+fn columns_that_are_not_nullable_hold_no_null(rt: HostRuntime) -> Result<(), Fail> {
+    let schema = others(rt.alloc())?;
+    let wrong = first_wrong(rt.alloc(), &schema, false, b"t,d,n\n", &OTHERS)?;
+    assert_eq!(rt; wrong, None);
     Ok(())
 }
 
