@@ -37,7 +37,7 @@ least_fails (suc n) test k h none =
           rw last (fails_here (test n) n parts.1)
     ]
 
-differ_back : (a b : List ℕ) → bytes_eq a b ≡ false → bytes_eq b a ≡ false
+pub differ_back : (a b : List ℕ) → bytes_eq a b ≡ false → bytes_eq b a ≡ false
 differ_back a b differ =
     elim (cases_Bool (bytes_eq b a)) [
       | inl same ↦ absurd (both_ways (bytes_eq a b) differ ((bytes_eq-Decides a b).1 (sym ((bytes_eq-Decides b a).0 same))))
@@ -45,7 +45,7 @@ differ_back a b differ =
     ]
 
 -- no earlier name is the same
-pair_differs : (names : List (List ℕ)) (i j : ℕ) → i < j → j < length names → is_again names j ≡ false → bytes_eq (name_at names i) (name_at names j) ≡ false
+pub pair_differs : (names : List (List ℕ)) (i j : ℕ) → i < j → j < length names → is_again names j ≡ false → bytes_eq (name_at names i) (name_at names j) ≡ false
 pair_differs names i j less h fresh =
     elim (cases_Bool (bytes_eq (name_at names j) (name_at names i))) [
       | inl same ↦

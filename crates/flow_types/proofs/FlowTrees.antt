@@ -1,5 +1,5 @@
 -- The tree of a typed flow.
-use Rattle.std.proofs.Common.{◌≡◌, ℕ, List, [], ◌∷◌, length, map, slice_get, refl, ap, sym, ◌∙◌, subst, cond, All, zero, suc, find, Bool, true, eq-eqb, inl, inr, count_by, ◌==◌, ◌+◌, None, Some, Ok, ◌≤◌, length-append, arith}
+use Rattle.std.proofs.Common.{◌≡◌, ◌<◌, ℕ, List, [], ◌∷◌, length, map, slice_get, refl, ap, sym, ◌∙◌, subst, cond, All, zero, suc, find, Bool, true, eq-eqb, inl, inr, count_by, ◌==◌, ◌+◌, None, Some, Ok, ◌≤◌, length-append, arith}
 use Rattle.std.specs.List.{list_all}
 use Rattle.std.proofs.lemmas.List.{length-map}
 use Rattle.std.proofs.lemmas.List.Sums.{sum_by-cons}
@@ -8,6 +8,7 @@ use Rattle.std.proofs.lemmas.Bool.Decides.{eqb_tells}
 use Rattle.std.proofs.lemmas.Option.{same_Some}
 use Rattle.list_algebra.specs.Trees.{Tree, node, Trees, no_trees, tree, roots_of, in_order, all_in_order, seen_tree, EachNode, EachNodeBelow, EachNext, root_of, trees_in}
 use Rattle.list_algebra.proofs.Trees.{trees_in-tree, next-all}
+use Rattle.tuple_schema.specs.Schemas.{are_distinct}
 use Rattle.workflow_file.specs.declared.raw.RawFlow.{RawFlow}
 use Rattle.flow_types.specs.declared.node.Kind.{Kind}
 use Rattle.flow_types.specs.declared.node.Kind.TheVariants as kind
@@ -15,11 +16,12 @@ use Rattle.flow_types.specs.declared.node.Node.{Node}
 use Rattle.flow_types.specs.Flows.{TypedFlow, number_of, count_inputs, tree_of, root_in, ids_of, node_of, columns_of, keeps_order, has_fixed_root}
 use Rattle.flow_types.specs.Columns.{IsInt}
 use Rattle.flow_types.specs.Linked.{IsOver, IsLinked, IsLinkedOver, AreApart, IsFlow}
-use Rattle.flow_types.specs.Graph.{graph_of, ComeOnce}
+use Rattle.flow_types.specs.Graph.{names_of, graph_of, ComeOnce}
 use Rattle.flow_types.specs.Typed.{typed, typed_tree}
 use Rattle.flow_types.specs.Typing.{HasTree}
 use Rattle.flow_types.proofs.Made.{bound, tree_numbers, seen_in_order}
 use Rattle.flow_types.proofs.TypedTrees.{root_in-tree}
+use Rattle.flow_types.proofs.Distinct.{names_apart}
 
 -- a node has the inputs that the trees below it have as roots
 abbrev pub HasInputs : Node → Trees Node → Type 0
@@ -81,9 +83,9 @@ unfolding typed
 typed_is raw places nodes root graph has = rw (graph, has.typed, has.all) refl
 
 -- the nodes that were typed of a tree whose places come once are a flow
-pub flow_of : (raw : RawFlow) (places : Tree ℕ) (nodes : List Node) (root : ℕ) → HasTree raw places [] nodes root
-    → ComeOnce (in_order places) → length (in_order places) ≤ 80 → IsFlow (record { nodes = nodes; key = None })
-flow_of raw places nodes root has once few =
+pub flow_of : (raw : RawFlow) (places : Tree ℕ) (nodes : List Node) (root : ℕ) → graph_of raw ≡ Ok places → HasTree raw places [] nodes root
+    → All (λ p. p < length (names_of raw)) (in_order places) → ComeOnce (in_order places) → length (in_order places) ≤ 80 → IsFlow (record { nodes = nodes; key = None })
+flow_of raw places nodes root graph has small once few =
     let all : in_order has.tree ≡ nodes = sym has.all in
     let numbers : map number_of nodes ≡ in_order places =
     ap (map number_of) (sym all) ∙ sym (seen_in_order number_of has.tree) ∙ ap in_order (tree_numbers raw places has.tree has.typed).0 in
@@ -94,6 +96,7 @@ flow_of raw places nodes root has once few =
       made = ap tree_of (sym all) ∙ tree_made has.tree (linked_has has.tree has.linked);
       linked = has.linked;
       apart = λ q. rw (← numbers_count q nodes, numbers) (once q);
+      named = subst (λ (ns : List Node). are_distinct (map (λ n. n.name) ns) ≡ true) all (names_apart raw places has.tree graph has.typed (ap (map number_of) all ∙ numbers) small once);
       few = rw (← count, numbers) few;
     }
 

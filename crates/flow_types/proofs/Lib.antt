@@ -12,6 +12,7 @@ pub mod NodeNames
 pub mod Made
 pub mod Once
 pub mod Whole
+pub mod Distinct
 pub mod FlowTrees
 pub mod Ranks
 pub mod Below

@@ -15,10 +15,10 @@ pub bound : {X Y F : Type 0} (r : Result X F) (k : X → Result Y F) (y : Y) →
 bound (Ok x) k y e = (x, refl, e)
 bound (Err f) k y e = absurd (cc)
 
-same_node : (x y : Node) → (let r : Result Node SchemaCause = Ok x in r) ≡ Ok y → x ≡ y
+pub same_node : (x y : Node) → (let r : Result Node SchemaCause = Ok x in r) ≡ Ok y → x ≡ y
 same_node x y e = cc
 
-placed : (place : ℕ) (r : Result Node SchemaCause) (n : Node) → at_node place r ≡ Ok n → r ≡ Ok n
+pub placed : (place : ℕ) (r : Result Node SchemaCause) (n : Node) → at_node place r ≡ Ok n → r ≡ Ok n
 placed place (Ok m) n e = let same : m ≡ n = cc in ap Ok same
 placed place (Err why) n e = absurd (cc)
 

@@ -259,3 +259,7 @@ pub few_below : (root : ℕ) (links : List (List ℕ)) → used_once root links 
     → (depth : ℕ) → length (in_order (tree_below links depth root)) ≤ length links
 few_below root links fine small within depth =
     few_once (length links) _ (once_below links root (used_are_once root links fine small within) depth) (below_tree (length links) links within depth root small)
+
+-- and its places are those of nodes
+pub inside_tree : (root : ℕ) (links : List (List ℕ)) → root < length links → AreWithin links → All (λ p. p < length links) (in_order (flow_tree root links))
+inside_tree root links small within = below_tree (length links) links within (length links - 1) root small

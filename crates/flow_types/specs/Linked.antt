@@ -1,7 +1,7 @@
 -- What holds of the nodes of a typed flow: each is over its inputs, whose columns it takes.
-use Rattle.std.specs.Prelude.{◌≡◌, ◌≤◌, ◌<◌, ◌==◌, ℕ, List, [], ◌∷◌, length, count_by, All, IsSome, IsTrue, Some, true, false, ⊤}
+use Rattle.std.specs.Prelude.{◌≡◌, ◌≤◌, ◌<◌, ◌==◌, ℕ, List, [], ◌∷◌, length, map, count_by, All, IsSome, IsTrue, Some, true, false, ⊤}
 use Rattle.tuple_schema.specs.declared.schema.Column.{Column}
-use Rattle.tuple_schema.specs.Schemas.{IsSchema}
+use Rattle.tuple_schema.specs.Schemas.{IsSchema, are_distinct}
 use Rattle.list_algebra.specs.Trees.{Tree, Trees, EachNode, roots_of, in_order}
 use Rattle.workflow_file.specs.Kept.{KeepsSource}
 use Rattle.plain_where.specs.Truths.{place_of}
@@ -54,11 +54,16 @@ IsLinkedOver n trees = IsLinked n (roots_of trees)
 abbrev pub AreApart : List Node → Type 0
 AreApart nodes = (number : ℕ) → count_by (λ n. number_of n == number) nodes ≤ 1
 
--- the nodes of a flow: those of one tree, inputs first, no two of one number, each over its inputs
+-- no two of these nodes have one name
+abbrev pub HaveOwnNames : List Node → Type 0
+HaveOwnNames nodes = IsTrue (are_distinct (map (λ n. n.name) nodes))
+
+-- the nodes of a flow: those of one tree, inputs first, no two of one number or one name, each over its inputs
 pub record IsFlow (flow : TypedFlow) : Type 0 where
   pub tree : Tree Node
   pub all : in_order tree ≡ flow.nodes
   pub made : tree_of flow.nodes ≡ Some tree
   pub linked : EachNode IsLinkedOver tree
   pub apart : AreApart flow.nodes
+  pub named : HaveOwnNames flow.nodes
   pub few : length flow.nodes ≤ 80

@@ -53,6 +53,8 @@ pub fn read_graph(alloc: Global, raw: &RawFlow) -> Result<Graph, Stop<SchemaFaul
     ensures there { OnOk result (inputs_exist (names_of raw.now) (needs_of raw.now) ≡ Ok tt) }
     ensures root { IfOk result (λ g. g.root < vec_len g.links) }
     ensures whole { IfOk result (λ g. IsWhole g.links.items (vec_len g.links - 1) g.root) }
+    ensures inside { IfOk result (λ g. All (λ place. place < length (names_of raw.now))
+        (in_order (flow_tree g.root g.links.items))) }
     ensures few { IfOk result (λ g. length (in_order (flow_tree g.root g.links.items)) ≤ 80) }
     ensures once { IfOk result (λ g. ComeOnce (in_order (flow_tree g.root g.links.items))) }
 {
