@@ -159,14 +159,16 @@ def csv_forms():
 
 
 def refusals():
-    source = b"source file is not built yet"
-    for what, text in [("a text in place of a number", b"a,b\n1,10\n2,x\n3,30\n"),
-                       ("a number out of range", b"a,b\n1,9223372036854775808\n"),
-                       ("an empty field", b"a,b\n1,\n"), ("a short record", b"a,b\n1\n"),
-                       ("a long record", b"a,b\n1,2,3\n"), ("another header", b"a,c\n1,2\n"),
-                       ("an empty file", b"")]:
-        expect_refusal(what, nums(text), 4, source)
-    expect_refusal("no source file", {"flow.toml": FLOW}, 4, source)
+    for what, text, note in [
+            ("a text in place of a number", b"a,b\n1,10\n2,x\n3,30\n", b" row 2 column 2: not a number"),
+            ("a number out of range", b"a,b\n1,9223372036854775808\n", b" row 1 column 2: number out of range"),
+            ("an empty field", b"a,b\n1,\n", b" row 1 column 2: empty field"),
+            ("a short record", b"a,b\n1\n", b": row 1 has another number of fields"),
+            ("a long record", b"a,b\n1,2,3\n", b": row 1 has another number of fields"),
+            ("another header", b"a,c\n1,2\n", b": header differs at column 2"),
+            ("an empty file", b"", b": header differs at column 1")]:
+        expect_refusal(what, nums(text), 4, b"source nums" + note)
+    expect_refusal("no source file", {"flow.toml": FLOW}, 4, b"source nums: file is missing")
     expect_refusal("no flow", {"nums.csv": b"a,b\n1,10\n"}, 3, b"flow.toml is missing")
     for what, text, note in [
             ("a flow that isn't TOML", b"a = ", b"flow.toml is not TOML"),

@@ -5,7 +5,6 @@ use Rattle.outside.specs.Moments.{no_read}
 use Rattle.outside.specs.Whole.{size_of}
 use Rattle.whload.specs.declared.reason.Reason.{Reason}
 use Rattle.whload.specs.declared.reason.Reason.TheVariants as why
-use Rattle.whload.specs.declared.reason.Unbuilt.TheVariants as unbuilt
 use Rattle.whload.specs.Commands.{Asked, load}
 use Rattle.whload.specs.Reasons.{RefusesFlow, IsAsked as IsReadingReason}
 use Rattle.whload.specs.Promises.{Devices, devices, Untouched, Fits, Runs, NotBegun, Begins}
@@ -46,8 +45,8 @@ module _ (command : Asked) (depot still : DepotState) (disk : DiskState) (out : 
   refused (why.FlowTooLong size) tells cause = refused_flow (why.FlowTooLong size) refl tells
   refused (why.Flow fault) tells cause = refused_flow (why.Flow fault) refl tells
   refused (why.Schema name fault) tells cause = refused_flow (why.Schema name fault) refl tells
-  refused (why.NotBuilt unbuilt.Flow) tells cause = refused_flow (why.NotBuilt unbuilt.Flow) refl tells
-  refused (why.NotBuilt unbuilt.Source) tells cause = absurd cause
+  refused why.NotBuilt tells cause = refused_flow why.NotBuilt refl tells
+  refused (why.Source name fault) tells cause = absurd cause
   refused (why.NotATable place) tells cause = absurd cause
   refused why.WorkflowDiffers tells cause = absurd cause
   refused why.Full tells cause = absurd cause

@@ -1,8 +1,8 @@
 pub mod Words
 pub mod Commands
 pub mod Reasons
-pub mod Stops
 pub mod Texts
+pub mod Stops
 pub mod Lines
 pub mod Verdict
 pub mod Found

@@ -2,7 +2,6 @@
 use Rattle.std.specs.Prelude.{◌≡◌, ℕ, Bool, true, false, IsTrue, Option, Some, None, Result, Ok, Err, ⊤}
 use Rattle.whload.specs.declared.reason.Reason.{Reason}
 use Rattle.whload.specs.declared.reason.Reason.TheVariants as why
-use Rattle.whload.specs.declared.reason.Unbuilt.TheVariants as unbuilt
 use Rattle.whload.specs.declared.reason.Step.{Step}
 use Rattle.whload.specs.declared.reason.Step.TheVariants as step
 use Rattle.whload.specs.declared.reason.Status.{Status}
@@ -15,8 +14,8 @@ step_of why.FlowMissing = step.Flow
 step_of (why.FlowTooLong size) = step.Flow
 step_of (why.Flow fault) = step.Flow
 step_of (why.Schema name fault) = step.Flow
-step_of (why.NotBuilt unbuilt.Flow) = step.Flow
-step_of (why.NotBuilt unbuilt.Source) = step.Source
+step_of why.NotBuilt = step.Flow
+step_of (why.Source name fault) = step.Source
 step_of (why.NotATable place) = step.Table
 step_of why.WorkflowDiffers = step.Table
 step_of why.Full = step.Room
@@ -72,8 +71,8 @@ IsAsked depot (Err why.FlowMissing) = ⊤
 IsAsked depot (Err (why.FlowTooLong size)) = ⊤
 IsAsked depot (Err (why.Flow fault)) = ⊤
 IsAsked depot (Err (why.Schema name fault)) = ⊤
-IsAsked depot (Err (why.NotBuilt unbuilt.Flow)) = ⊤
-IsAsked depot (Err (why.NotBuilt unbuilt.Source)) = ⊥
+IsAsked depot (Err why.NotBuilt) = ⊤
+IsAsked depot (Err (why.Source name fault)) = ⊥
 IsAsked depot (Err (why.NotATable place)) = ⊥
 IsAsked depot (Err why.WorkflowDiffers) = ⊥
 IsAsked depot (Err why.Full) = ⊥

@@ -11,11 +11,16 @@ use Rattle.flow_types.specs.declared.fault.SchemaCause.{SchemaCause}
 use Rattle.flow_types.specs.declared.fault.SchemaCause.TheVariants as cause
 use Rattle.flow_types.specs.declared.fault.NodeId.{NodeId}
 use Rattle.flow_types.specs.declared.node.Node.{Node}
+use Rattle.row_codec.specs.declared.fields.FieldFault.{FieldFault}
+use Rattle.row_codec.specs.declared.fields.FieldFault.TheVariants as field
+use Rattle.extractors.specs.declared.fault.CsvFault.{CsvFault}
+use Rattle.extractors.specs.declared.fault.CsvFault.TheVariants as csv
+use Rattle.load_runner.specs.declared.fault.SourceWhat.{SourceWhat}
+use Rattle.load_runner.specs.declared.fault.SourceWhat.TheVariants as what
 use Rattle.load_runner.specs.declared.report.EdgeCount.{EdgeCount}
 use Rattle.load_runner.specs.declared.report.Report.{Report}
 use Rattle.whload.specs.declared.reason.Reason.{Reason}
 use Rattle.whload.specs.declared.reason.Reason.TheVariants as why
-use Rattle.whload.specs.declared.reason.Unbuilt.TheVariants as unbuilt
 
 -- the name of the node of this number, the first that has it
 abbrev pub name_of : List Node → NodeId → List ℕ
@@ -63,6 +68,28 @@ cause_text cause.NotReached = codes "is not reached from the table"
 cause_text (cause.UnknownColumn column) = codes "unknown column " ++ column
 cause_text (cause.DoubleColumn column) = codes "column " ++ (column ++ codes " comes twice")
 
+-- what is wrong with a field, in words
+abbrev pub field_text : FieldFault → List ℕ
+field_text field.Empty = codes "empty field"
+field_text field.NotNumber = codes "not a number"
+field_text field.TooManyDigits = codes "too many digits after the point"
+field_text field.OutOfRange = codes "number out of range"
+field_text field.NotUtf8 = codes "not UTF-8"
+field_text field.TooLong = codes "text too long"
+
+-- why a CSV file has no content, in words that stand behind its source's name
+abbrev pub csv_text : CsvFault → List ℕ
+csv_text csv.Depot = codes ": a source file failed"
+csv_text csv.Missing = codes ": file is missing"
+csv_text (csv.TooLarge size) = codes ": file has " ++ (decimal size ++ codes " bytes")
+csv_text (csv.BadHeader at) = codes ": header differs at column " ++ decimal at
+csv_text (csv.BadCsv row) = codes ": row " ++ (decimal row ++ codes " has another number of fields")
+csv_text (csv.BadRow row column cause) = codes " row " ++ (decimal row
+    ++ (codes " column " ++ (decimal column ++ (codes ": " ++ field_text cause))))
+
+abbrev pub source_text : SourceWhat → List ℕ
+source_text (what.Csv fault) = csv_text fault
+
 -- why a command wasn't done, in words
 abbrev pub reason_text : Reason → List ℕ
 reason_text why.Usage =
@@ -71,8 +98,8 @@ reason_text why.FlowMissing = codes "flow.toml is missing"
 reason_text (why.FlowTooLong size) = codes "flow.toml has " ++ decimal size ++ codes " bytes"
 reason_text (why.Flow fault) = fault_text fault
 reason_text (why.Schema name fault) = name ++ (codes ": " ++ cause_text fault.cause)
-reason_text (why.NotBuilt unbuilt.Flow) = codes "flow.toml is not built yet"
-reason_text (why.NotBuilt unbuilt.Source) = codes "source file is not built yet"
+reason_text why.NotBuilt = codes "flow.toml is not built yet"
+reason_text (why.Source name fault) = codes "source " ++ (name ++ source_text fault.what)
 reason_text (why.NotATable place) = codes "table.whl is not a table at " ++ decimal place
 reason_text why.WorkflowDiffers = codes "table.whl was made by another workflow"
 reason_text why.Full = codes "table.whl is full"
@@ -91,4 +118,5 @@ IsMade (why.FlowTooLong size) = ⊤
 IsMade (why.Flow fault) = ⊤
 IsMade (why.NotATable place) = ⊤
 IsMade (why.Schema name fault) = ⊤
+IsMade (why.Source name fault) = ⊤
 IsMade reason = ⊥

@@ -16,7 +16,6 @@ use Rattle.flow_types.specs.Typed.{typed}
 use Rattle.whload.specs.Commands.{Asked, Job, asked_in, job_for}
 use Rattle.whload.specs.declared.reason.Reason.{Reason}
 use Rattle.whload.specs.declared.reason.Reason.TheVariants as why
-use Rattle.whload.specs.declared.reason.Unbuilt.TheVariants as unbuilt
 
 -- the flow of a folder: its text, and the typed flow that it declares
 pub record FlowText : Type 0 where
@@ -36,7 +35,7 @@ parsed_in (Err fault) = Err (why.Flow fault)
 
 -- the flow is one that is built
 abbrev pub built_in : RawFlow → Result (Unit {0}) Reason
-built_in raw = if is_built raw then Ok tt else Err (why.NotBuilt unbuilt.Flow)
+built_in raw = if is_built raw then Ok tt else Err why.NotBuilt
 
 -- the name of the node that a fault is of, or `table`
 abbrev pub fault_name : RawFlow → Option NodeId → List ℕ

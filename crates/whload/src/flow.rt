@@ -9,7 +9,7 @@ ghost use Rattle.flow_types.specs.Typed.{typed};
 ghost use Rattle.whload.specs.Reasons.{Tells, IsAsked};
 ghost use Rattle.whload.specs.Verdict.{parsed_in, built_in, fault_name, typed_in, flow_in};
 
-use crate::{Reason, Unbuilt};
+use crate::Reason;
 use flow_types::{Flow, NodeId, is_built, type_flow};
 use std::alloc::Global;
 use tuple_schema::{Memory, Stop, Text};
@@ -49,9 +49,7 @@ fn expect_built(raw: &RawFlow) -> Result<(), Reason>
     if is_built(raw) {
         return Ok(());
     }
-    Err(Reason::NotBuilt {
-        what: Unbuilt::Flow,
-    })
+    Err(Reason::NotBuilt)
 }
 
 // The typed flow of a raw one.
@@ -96,8 +94,8 @@ fn name_of(alloc: Global, raw: &RawFlow, place: usize) -> Result<Text, Memory>
     }
 }
 
-// A text that isn't too long.
-fn short_text(alloc: Global, text: &str) -> Result<Text, Memory>
+/// A text that isn't too long.
+pub fn short_text(alloc: Global, text: &str) -> Result<Text, Memory>
     requires { length text.now ≤ 4096 }
     ensures { IfOk result (λ t. t ≡ text.now) }
 {

@@ -27,7 +27,7 @@ mod words;
 
 pub use laws::run_again_after_a_crash;
 use outside::{FileDisk, FolderDepot, StdSink};
-pub use reason::{Ending, Reason, Status, Step, Unbuilt};
+pub use reason::{Ending, Reason, Status, Step};
 pub use run::run;
 use std::process::ExitCode;
 use std::rt::{Env, Files};

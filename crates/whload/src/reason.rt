@@ -4,18 +4,10 @@ ghost use Rattle.whload.specs.Reasons.{step_of, status_at, status_of, exit_statu
 ghost use Rattle.whload.specs.declared.reason.Reason.TheVariants as why;
 
 use flow_types::SchemaFault;
+use load_runner::SourceFault;
 use std::alloc::AllocError;
 use tuple_schema::Text;
 use workflow_file::FlowFault;
-
-/// What the program can't do yet.
-#[derive(Clone, Copy, Debug, PartialEq, Eq)]
-pub enum Unbuilt {
-    /// The flow has something that isn't built.
-    Flow,
-    /// The source's file has something that isn't built.
-    Source,
-}
 
 /// Why a command wasn't done.
 #[derive(Debug, PartialEq, Eq, Drop)]
@@ -31,12 +23,14 @@ pub enum Reason {
     /// The names in the flow don't fit together: its first fault, and the name of that fault's node, which
     /// is `table` for the table.
     Schema { name: Text, fault: SchemaFault },
-    /// The flow or the source has something that can't be done yet.
-    NotBuilt { what: Unbuilt },
+    /// The flow has something that can't be done yet.
+    NotBuilt,
     /// The table's file is made, and is no table: this is the first wrong place.
     NotATable { at: u64 },
     /// The table was made by another flow text.
     WorkflowDiffers,
+    /// The first source in the order of the flow file that has no content, with its name.
+    Source { name: Text, fault: SourceFault },
     /// The next block would end past the longest file.
     Full,
     /// The source files failed.
@@ -97,12 +91,8 @@ impl Reason {
             Reason::Usage => Step::Words,
             Reason::FlowMissing | Reason::FlowTooLong { .. } | Reason::Flow(_) => Step::Flow,
             Reason::Schema { .. } => Step::Flow,
-            Reason::NotBuilt {
-                what: Unbuilt::Flow,
-            } => Step::Flow,
-            Reason::NotBuilt {
-                what: Unbuilt::Source,
-            } => Step::Source,
+            Reason::NotBuilt => Step::Flow,
+            Reason::Source { .. } => Step::Source,
             Reason::NotATable { .. } | Reason::WorkflowDiffers => Step::Table,
             Reason::Full => Step::Room,
             Reason::Depot | Reason::Disk | Reason::Sink => Step::Device,

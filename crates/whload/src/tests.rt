@@ -164,22 +164,28 @@ fn a_changed_flow_is_refused(rt: HostRuntime) -> Result<(), Fail> {
     Ok(())
 }
 
-const FAULTY: [Option<&str>; 5] = [
-    Some("a,b\n1,10\n2,x\n3,30\n"),
-    Some("a,b\n1,10\n2\n"),
-    Some("a,c\n1,10\n"),
-    Some(""),
-    None,
+// A source's file, and what is told of it.
+const FAULTY: [(Option<&str>, &str); 9] = [
+    (Some("a,b\n1,10\n2,x\n3,30\n"), " row 2 column 2: not a number"),
+    (Some("a,b\n1,10\nx,y\n3\n"), " row 2 column 1: not a number"),
+    (Some("a,b\n1,\n"), " row 1 column 2: empty field"),
+    (
+        Some("a,b\n1,9223372036854775808\n"),
+        " row 1 column 2: number out of range",
+    ),
+    (Some("a,b\n1,10\n2\n"), ": row 2 has another number of fields"),
+    (Some("a,c\n1,10\n"), ": header differs at column 2"),
+    (Some("a,b,c\n1,10\n"), ": header differs at column 3"),
+    (Some(""), ": header differs at column 1"),
+    (None, ": file is missing"),
 ];
 
 #[test]
 fn a_faulty_source_leaves_no_table(rt: HostRuntime) -> Result<(), Fail> {
-    for nums in FAULTY {
+    for (nums, text) in FAULTY {
         let left = load(rt.alloc(), Some(FLOW), nums, b"")?;
-        assert_eq!(rt;
-            left.said.as_str(),
-            "4||whload: source file is not built yet\n"
-        );
+        let said = format!(in rt.alloc(); "4||whload: source nums{text}\n")?;
+        assert_eq!(rt; left.said.as_str(), said.as_str());
         assert_eq!(rt; left.table.len(), 0);
     }
     Ok(())

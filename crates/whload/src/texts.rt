@@ -1,12 +1,14 @@
 // What the program writes.
 ghost use Rattle.std.specs.Prelude.{◌≡◌, ◌++◌, IfOk, OnOk, OnErr, codes, string_bytes};
 ghost use Rattle.std.specs.List.{flat_map};
-ghost use Rattle.whload.specs.Texts.{report_text, edge_line, name_of, place_text, shape_text, cause_text, refusal_line, IsMade};
+ghost use Rattle.whload.specs.Texts.{report_text, edge_line, name_of, place_text, shape_text, cause_text, source_text, csv_text, field_text, refusal_line, IsMade};
 ghost use Rattle.whload.specs.Lines.{line_text};
 
-use crate::{Reason, Unbuilt};
+use crate::Reason;
+use extractors::CsvFault;
 use flow_types::{Flow, Node, NodeId, SchemaCause};
-use load_runner::{EdgeCount, Report};
+use load_runner::{EdgeCount, Report, SourceWhat};
+use row_codec::FieldFault;
 use std::alloc::{AllocError, Global};
 use tuple_schema::Text;
 use workflow_file::{FlowFault, Lack, Place};
@@ -101,12 +103,10 @@ pub fn line_of(alloc: Global, reason: &Reason) -> Result<Line, AllocError>
         Reason::Schema { name, fault } => {
             return Ok(Line::Made(schema_line(alloc, name, &fault.cause)?));
         }
-        Reason::NotBuilt {
-            what: Unbuilt::Flow,
-        } => "whload: flow.toml is not built yet\n",
-        Reason::NotBuilt {
-            what: Unbuilt::Source,
-        } => "whload: source file is not built yet\n",
+        Reason::NotBuilt => "whload: flow.toml is not built yet\n",
+        Reason::Source { name, fault } => {
+            return Ok(Line::Made(source_line(alloc, name, fault.what)?));
+        }
         Reason::NotATable { at } => {
             let text = format!(in alloc; "whload: table.whl is not a table at {at}\n")?;
             return Ok(Line::Made(text));
@@ -171,6 +171,47 @@ fn cause_of(alloc: Global, cause: &SchemaCause) -> Result<String, AllocError>
             let column = column.as_str();
             format!(in alloc; "column {column} comes twice")
         }
+    }
+}
+
+fn source_line(alloc: Global, name: &Text, what: SourceWhat) -> Result<String, AllocError>
+    ensures { IfOk result (λ text. string_bytes text
+        ≡ codes "whload: " ++ (codes "source " ++ (name.now ++ source_text what)) ++ codes "\n") }
+{
+    let SourceWhat::Csv(fault) = what;
+    let source = name.as_str();
+    let text = csv_text(alloc, fault)?;
+    format!(in alloc; "whload: source {source}{text}\n")
+}
+
+fn csv_text(alloc: Global, fault: CsvFault) -> Result<String, AllocError>
+    ensures { IfOk result (λ text. string_bytes text ≡ csv_text fault) }
+{
+    match fault {
+        CsvFault::Depot => String::from_str(alloc, ": a source file failed"),
+        CsvFault::Missing => String::from_str(alloc, ": file is missing"),
+        CsvFault::TooLarge { size } => format!(in alloc; ": file has {size} bytes"),
+        CsvFault::BadHeader { at } => format!(in alloc; ": header differs at column {at}"),
+        CsvFault::BadCsv { row } => {
+            format!(in alloc; ": row {row} has another number of fields")
+        }
+        CsvFault::BadRow { row, column, cause } => {
+            let cause = field_text(cause);
+            format!(in alloc; " row {row} column {column}: {cause}")
+        }
+    }
+}
+
+fn field_text(cause: FieldFault) -> &'static str
+    ensures { result.now ≡ field_text cause }
+{
+    match cause {
+        FieldFault::Empty => "empty field",
+        FieldFault::NotNumber => "not a number",
+        FieldFault::TooManyDigits => "too many digits after the point",
+        FieldFault::OutOfRange => "number out of range",
+        FieldFault::NotUtf8 => "not UTF-8",
+        FieldFault::TooLong => "text too long",
     }
 }
 
