@@ -7,3 +7,4 @@ pub mod Once
 pub mod Frames
 pub mod Leads
 pub mod Verdicts
+pub mod Pieces

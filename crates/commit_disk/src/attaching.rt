@@ -12,7 +12,7 @@ use crate::gate::{CLOSED, MADE_GATE, OPEN};
 use crate::journal::VERSION;
 use crate::{FULL_BYTES, Journal, MAX_FLOW_BYTES, MAX_ROW_BYTES, MAX_ROWS};
 use outside::{Disk, Failed, MAX_SIZE};
-use std::alloc::Global;
+use std::alloc::{AllocError, Global};
 use tuple_schema::Stop;
 
 /// Why a table can't be attached.
@@ -74,8 +74,15 @@ pub fn attach<K: Disk>(
     ensures cause { IfFault result (λ found. found ≡ fault.Disk
         → Rose (K.state disk.old).faults (K.state disk.new).faults) }
 {
-    let mut copy = text.to_vec(alloc)?;
-    Ok(settle_and_read(disk, text, &mut copy)?)
+    let mut block = text_block(alloc)?;
+    Ok(settle_and_read(disk, text, &mut block)?)
+}
+
+// A block to read the file's flow text over.
+fn text_block(alloc: Global) -> Result<Vec<u8>, AllocError>
+    ensures { IfOk result (λ block. length block.items ≡ 4096) }
+{
+    Ok(vec![in alloc; 0u8; 4096]?)
 }
 
 // The place of the flow text.
@@ -246,9 +253,22 @@ fn read_head<K: Disk>(disk: &mut K, size: u64) -> Result<Option<u32>, TableFault
     text_len_of(&head, size)
 }
 
-// Whether the flow text in the head, of so many bytes, is this one, of which a copy is read over.
-fn has_text<K: Disk>(disk: &mut K, len: u32, text: &[u8], copy: &mut [u8]) -> Result<bool, Failed>
-    requires copy { length copy.old ≡ length text.now }
+// Whether these bytes stand at that place of the file, which is read over a block of as many.
+fn has_bytes<K: Disk>(disk: &mut K, at: u64, bytes: &[u8], block: &mut [u8]) -> Result<bool, Failed>
+    requires block { length block.old ≡ length bytes.now }
+    requires size { at + length bytes.now ≤ (K.state disk.old).size }
+    ensures same { IfOk result (λ same. IsTrue (K.state disk.old).honest
+        → IsTrue same ↔ (take (length bytes.now) (drop at (K.state disk.old).file) ≡ bytes.now)) }
+    ensures read { OnlyReads (K.state disk.old) (K.state disk.new) }
+    ensures cause { HasCause (K.state disk.old).faults (K.state disk.new).faults result }
+{
+    disk.read_at(at, block)?;
+    Ok(&*block == bytes)
+}
+
+// Whether the flow text in the head, of so many bytes, is this one. It is compared block by block.
+fn has_text<K: Disk>(disk: &mut K, len: u32, text: &[u8], block: &mut [u8]) -> Result<bool, Failed>
+    requires block { 0 < length block.old }
     requires size { 16 + len ≤ (K.state disk.old).size }
     ensures same { IfOk result (λ same. IsTrue (K.state disk.old).honest → 16 + len ≤ length (K.state disk.old).file
         → IsTrue same ↔ (take len (drop 16 (K.state disk.old).file) ≡ text.now)) }
@@ -258,8 +278,16 @@ fn has_text<K: Disk>(disk: &mut K, len: u32, text: &[u8], copy: &mut [u8]) -> Re
     if len as usize != text.len() {
         return Ok(false);
     }
-    disk.read_at(TEXT_PLACE, copy)?;
-    Ok(&*copy == text)
+    let mut done = 0;
+    while done < text.len() {
+        let count = block.len().min(text.len() - done);
+        let piece = &text[done..done + count];
+        if !has_bytes(disk, TEXT_PLACE + done as u64, piece, &mut block[..count])? {
+            return Ok(false);
+        }
+        done += count;
+    }
+    Ok(true)
 }
 
 // Makes all that was written safe, and tells the file's length.
@@ -275,14 +303,14 @@ fn settled_size<K: Disk>(disk: &mut K) -> Result<u64, Failed>
     disk.size()
 }
 
-// Reads the file's head, gates and flow text, with a copy of the text to read over.
+// Reads the file's head, gates and flow text, with a block to read the text over.
 fn read_table<K: Disk>(
     disk: &mut K,
     size: u64,
     text: &[u8],
-    copy: &mut [u8],
+    block: &mut [u8],
 ) -> Result<Attached, TableFault>
-    requires copy { length copy.old ≡ length text.now }
+    requires block { 0 < length block.old }
     requires size { size ≤ (K.state disk.old).size }
     ensures tells { IsTrue (K.state disk.old).honest → size ≡ length (K.state disk.old).file
         → FoundTells result (K.state disk.old).file text.now }
@@ -295,7 +323,7 @@ fn read_table<K: Disk>(
         return Ok(Attached::NotMade);
     };
     let journal = read_gates(disk, size, TEXT_PLACE + len as u64)?;
-    if !has_text(disk, len, text, copy)? {
+    if !has_text(disk, len, text, block)? {
         return Err(TableFault::WorkflowDiffers);
     }
     Ok(Attached::Made(journal))
@@ -305,9 +333,9 @@ fn read_table<K: Disk>(
 fn settle_and_read<K: Disk>(
     disk: &mut K,
     text: &[u8],
-    copy: &mut [u8],
+    block: &mut [u8],
 ) -> Result<Attached, TableFault>
-    requires { length copy.old ≡ length text.now }
+    requires { 0 < length block.old }
     ensures tells { IsTrue (K.state disk.old).honest → FoundTells result (K.state disk.old).file text.now }
     ensures within { IfOk result (λ found. IsWithin found (K.state disk.new).size) }
     ensures sound { IfOk result IsSound }
@@ -318,5 +346,5 @@ fn settle_and_read<K: Disk>(
     ensures cause { HasDiskCause (K.state disk.old).faults (K.state disk.new).faults result }
 {
     let size = settled_size(disk)?;
-    read_table(disk, size, text, copy)
+    read_table(disk, size, text, block)
 }
