@@ -52,7 +52,8 @@ pub record IsFull (job : Job) (told : Option Files) (committed : List (List Valu
   pub count : ℕ
   pub full : IsFullBehind gate (run_blocks job run) count
   pub blocks : Holds now.file job.text (with_blocks olds (take count (run_blocks job run))) false
-  pub rows : HoldsRows now.file job.text (columns_of job) (committed ++ together (take count (run_blocks job run))) false
+  pub rows : HoldsRows now.file job.text (columns_of job)
+      (committed ++ together (take count (run_blocks job run))) false
   pub settled : IsSettled now
 
 -- the disk failed while the table was made, or while the blocks of a trimmed run were added behind the old ones
@@ -83,8 +84,8 @@ pub record AddsRun (job : Job) (told : Option Files) (committed : List (List Val
   pub each : AtEachMoment disk now (λ image. disk.may_leave image
       ⊎ IsGrown disk.file job.text (columns_of job) olds (run_blocks job run) image)
 
--- a load to a table that isn't ended, whose blocks decode to the committed rows: only blocks of a trimmed run are added,
--- in their order
+-- a load to a table that isn't ended, whose blocks decode to the committed rows: only blocks of a trimmed run are
+-- added, in their order
 pub record AddsTo (job : Job) (told : Option Files) (committed : List (List Value)) (disk now : DiskState)
     (answer : Answer) : Type 0 where
   pub olds : List Stored

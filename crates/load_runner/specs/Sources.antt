@@ -30,7 +30,8 @@ abbrev pub of_source : NodeId → Result (List Tuple) CsvFault → Result (List 
 of_source id (Ok rows) = Ok rows
 of_source id (Err fault) = Err (source_fault id fault)
 
--- the content of a source's file, one of at most 268,435,456 bytes, or its first fault; any other node has the empty one
+-- the content of a source's file, one of at most 268,435,456 bytes, or its first fault; of any other node the empty
+-- one
 abbrev pub content_at : Files → Node → Kind → Result (List Tuple) SourceFault
 content_at files n (kind.Source source) = of_source n.id
     (source_content source.any_header n.schema (found_in 268435456 (file_at files source.file)))

@@ -2,13 +2,15 @@
 //!
 //! Stands on `kind_laws`, which says what a flow means, on `extractors`, which reads its sources, and on
 //! `table_read` and `table_write`, which read and write the table; the program stands on it. Read
-//! `specs/Standing.antt` first, when a table's rows stand for a meaning, then `specs/Safe.antt`, what a
-//! crash may leave, `specs/Loads.antt`, the promise of a load, and `specs/Histories.antt`, any number of loads.
+//! `specs/Sources.antt` first, what a flow means over files, then `specs/Standing.antt`, when a table's rows stand for
+//! that, `specs/Trimmed.antt`, the runs that leave out what is committed, `specs/Loads.antt`, the promise of a load,
+//! and `specs/Histories.antt`, any number of loads.
 //!
-//! Promised, of a disk that is honest: whatever a load answers, and at every moment of it, a crash leaves
-//! all rows that stood, of this table and of any other, and rows that stand where the source is as it was;
-//! with Ok the table is ended and holds all rows of the meaning; `any_loads`: so it is after any number of
-//! loads, stopped or not.
+//! Promised, of a disk that is honest: whatever a load answers, and at every moment of it, a crash leaves all rows
+//! that stood, of this table and of any other; and where the files keep the truth that these rows stand for, what
+//! is left stands for it, and with Ok the table is ended and holds all of its meaning. Without a truth: blocks of a
+//! trimmed run over what the files hold. `any_loads`: so it is after any number of loads, stopped or not, each over
+//! files that list one truth.
 //! Not promised: that a load ever completes, that memory is found, or anything of two loads at one time.
 #![tactic(auto)]
 
@@ -25,3 +27,6 @@ pub use fault::{LoadFault, SourceFault, SourceWhat};
 pub use laws::any_loads;
 pub use report::{EdgeCount, Report, ReportEdges};
 pub use running::load;
+
+#[cfg(test)]
+mod tests;
