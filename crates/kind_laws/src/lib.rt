@@ -11,6 +11,8 @@
 
 mod evaluation;
 mod kinds;
+#[cfg(test)]
+mod tests;
 mod transform;
 
 pub use evaluation::whole;
