@@ -1,10 +1,10 @@
 -- Whether a token can stand in a state, by its kind.
-use Rattle.std.proofs.Common.{◌≡◌, ℕ, List, [], ◌∷◌, length, Option, Some, None, is_some, Bool, true, false, cond, ◌&&◌, ◌||◌, nat_le, refl, sym, ap, ◌∙◌}
+use Rattle.std.proofs.Common.{◌≡◌, ℕ, List, [], ◌∷◌, length, Some, None, is_some, Bool, true, false, cond, ◌&&◌, ◌||◌, nat_le, refl, sym, ap, ◌∙◌}
 use Rattle.std.specs.List.{list_any}
-use Rattle.expr_grammar.specs.Tokens.{is_word, is_scale, is_front}
+use Rattle.expr_grammar.specs.Tokens.{is_word, is_front}
 use Rattle.expr_grammar.specs.Phrases.{level_of, left_of}
 use Rattle.expr_grammar.specs.Kinds.{fixed, spelling, begins_number, begins_text}
-use Rattle.expr_grammar.specs.Machine.{State, at_mode, Reduced, reduce, rank, made, hole, takes_in, takes_operand, takes_opening, takes_after, takes_is, takes_is_not, takes_scaled, with_operator, with_is, closed_in, ended_call, parted_in, gone_on, begins, begins_in}
+use Rattle.expr_grammar.specs.Machine.{State, at_mode, Reduced, reduce, rank, made, hole, takes_in, takes_operand, takes_opening, takes_after, takes_is, takes_is_not, takes_scaled, with_operator, with_is, closed_in, ended_call, parted_in, gone_on, begins}
 use Rattle.expr_grammar.specs.Allowing.{reduced_level, closes, closes_call, parts, parts_call, allows, allows_operand, allows_opening, allows_after, allows_is, allows_is_not, allows_scaled, begins_by, begins_if}
 use Rattle.expr_grammar.specs.declared.expr.Expr.{Expr}
 use Rattle.expr_grammar.specs.declared.expr.Expr.TheVariants as e

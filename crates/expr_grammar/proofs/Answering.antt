@@ -1,34 +1,34 @@
 -- The laws of the reading: what it finds, and what it refuses.
-use Rattle.std.proofs.Common.{◌≡◌, ℕ, zero, suc, ◌+◌, ◌-◌, ◌<◌, ◌≤◌, ◌^◌, List, [], ◌∷◌, ◌++◌, length, take, drop, filter, reverse, codes, not, ◌&&◌, ◌==◌, Option, Some, None, Result, Ok, Err, Bool, true, false, cond, ◌⊎◌, inl, inr, nat_le, nat_lt, refl, sym, ap, subst, ◌∙◌, append_assoc, append-nil, length-append, arith, rules}
+use Rattle.std.proofs.Common.{◌≡◌, ℕ, ◌+◌, ◌-◌, ◌<◌, ◌≤◌, ◌^◌, List, [], ◌∷◌, ◌++◌, length, take, drop, filter, reverse, ◌==◌, Option, Some, None, Result, Ok, Err, Bool, true, false, cond, ◌⊎◌, inl, inr, nat_le, nat_lt, refl, sym, ap, subst, ◌∙◌, append_assoc, append-nil, length-append, arith}
 use Rattle.std.proofs.lemmas.List.{take-append-drop, take-take, reverse-append, reverse-reverse}
 use Rattle.std.proofs.Math.Seq.{take-append_seam}
 use Rattle.std.proofs.lemmas.Bool.{false≢true, le-leb, lt-leb, lt-ltb, leb-true, leb-false, cases_order, and_parts, and_from, false_from_ne_true, not_from_false}
 use Rattle.std.specs.Str.Parse.{digits_value}
-use Rattle.expr_grammar.specs.Kinds.{kind_of, continues, begins_number}
+use Rattle.expr_grammar.specs.Kinds.{continues, begins_number}
 use Rattle.expr_grammar.specs.declared.state.Kind.TheVariants as kind
 use Rattle.expr_grammar.specs.declared.state.Frame.{Frame}
 use Rattle.expr_grammar.specs.declared.state.Mode.{Mode}
 use Rattle.expr_grammar.specs.declared.state.Mode.TheVariants as m
 use Rattle.tuple_schema.specs.Texts.{is_digit}
 use Rattle.expr_grammar.specs.Tokens.{is_number, ends_number, is_text, is_scale, units, said, unquoted, symbols, is_token, IsLongest, AreSpaces, Reads, Spells}
-use Rattle.expr_grammar.specs.Texts.{IsSpelt, IsText, GoesOn, Begins, BeginsWithin, IsBeyond, IsFault, IsFirstFault, StaysWithin, IsUnexpected}
-use Rattle.expr_grammar.specs.Phrases.{Phrase, IsPhrase, tokens, depth, LeavesFit, IsWithin, tree}
+use Rattle.expr_grammar.specs.Texts.{IsSpelt, IsText, GoesOn, BeginsWithin, IsBeyond, IsFault, IsFirstFault, StaysWithin, IsUnexpected}
+use Rattle.expr_grammar.specs.Phrases.{Phrase, tokens, IsWithin, tree}
 use Rattle.std.specs.Prelude.{IfOk}
 use Rattle.tuple_schema.specs.Stops.{◌>>=◌, Gives, IfFault}
 use Rattle.tuple_schema.specs.declared.memory.Stop.{Stop}
 use Rattle.tuple_schema.specs.declared.memory.Stop.TheVariants as stop
-use Rattle.expr_grammar.specs.Machine.{State, takes, takes_in, begins, is_bad_already, beyond, levels_in, past, judged, fault, begun, stepped, read, reading, ended, start}
+use Rattle.expr_grammar.specs.Machine.{State, takes, takes_in, begins, is_bad_already, beyond, levels_in, judged, fault, begun, read, reading, ended, start}
 use Rattle.expr_grammar.specs.declared.expr.Expr.{Expr}
 use Rattle.expr_grammar.specs.declared.fault.ExprFault.{ExprFault}
 use Rattle.expr_grammar.specs.declared.fault.ExprWhat.{ExprWhat}
 use Rattle.expr_grammar.specs.declared.fault.ExprWhat.TheVariants as what
 use Rattle.expr_grammar.proofs.Complete.{advance, led_to, allowed, go, tokens_taken, number_kind, text_no_number, scale_number}
-use Rattle.expr_grammar.proofs.Holes.{Holds, Completed, completed}
-use Rattle.expr_grammar.proofs.Sound.{next_holds, limits_from, Whole}
-use Rattle.expr_grammar.proofs.Lexical.{Stops, Tidy, tidy_word, tokens_of, symbol_plain, grown_word, grown_symbol, number_grows, digit_of, symbol_of, quote_of, text_grows, not_longer, not_true, token_number, token_symbol, digit_no_letter}
+use Rattle.expr_grammar.proofs.Holes.{Holds, completed}
+use Rattle.expr_grammar.proofs.Sound.{next_holds, limits_from}
+use Rattle.expr_grammar.proofs.Lexical.{Stops, Tidy, tidy_word, tokens_of, symbol_plain, grown_word, grown_symbol, number_grows, digit_of, symbol_of, not_longer, token_number, token_symbol}
 use Rattle.expr_grammar.proofs.Standing.{taken_token, begins_front, number_end}
-use Rattle.expr_grammar.proofs.Points.{Pointed, pointed, digit_token}
-use Rattle.expr_grammar.proofs.Bytes.{Passed, passes, run, run_first, run_split, read_spaces, read_token, reads_expression, past-some, past-bad, stepped-on, read-goes, read-end, stepped-past, read-fails}
+use Rattle.expr_grammar.proofs.Points.{pointed}
+use Rattle.expr_grammar.proofs.Bytes.{passes, run, run_first, run_split, read_spaces, read_token, reads_expression, past-some, past-bad, stepped-on, read-goes, read-end, stepped-past, read-fails}
 use Rattle.expr_grammar.proofs.Verdict.{Outcome, Wrong, Found, Stuck, Starts, outcome_of, within_of, begins_within, never_unexpected, number_taken}
 
 -- what is found

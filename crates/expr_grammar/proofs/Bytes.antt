@@ -1,13 +1,10 @@
 -- Reading byte by byte is reading token by token.
-use Rattle.std.proofs.Common.{◌≡◌, ℕ, zero, suc, ◌+◌, ◌-◌, ◌<◌, ◌≤◌, ◌^◌, List, [], ◌∷◌, ◌++◌, length, codes, Option, Some, None, Result, Ok, Err, Bool, true, false, cond, ◌⊎◌, inl, inr, nat_le, nat_lt, eqb, ◌==◌, refl, sym, ap, subst, ◌∙◌, append_assoc, append-nil, length-append, arith, rules}
-use Rattle.std.specs.List.{list_all}
-use Rattle.std.proofs.lemmas.Bool.{false≢true, true≢false, and_parts, and_from, eqb-true}
-use Rattle.std.specs.Str.Parse.{digits_value}
-use Rattle.tuple_schema.specs.Texts.{is_lower, is_digit}
-use Rattle.expr_grammar.specs.Tokens.{is_word, is_number, is_token, IsLongest, AreSpaces, Reads, Spells}
-use Rattle.expr_grammar.specs.Kinds.{kind_of, continues}
+use Rattle.std.proofs.Common.{◌≡◌, ℕ, ◌+◌, ◌-◌, List, [], ◌∷◌, ◌++◌, length, Option, Some, None, Ok, Err, Bool, true, false, eqb, refl, sym, ap, ◌∙◌, append_assoc, append-nil, length-append, arith}
+use Rattle.std.proofs.lemmas.Bool.{false≢true, and_parts, eqb-true}
+use Rattle.expr_grammar.specs.Tokens.{is_token, IsLongest, AreSpaces, Reads, Spells}
+use Rattle.expr_grammar.specs.Kinds.{continues}
 use Rattle.tuple_schema.specs.Stops.{◌>>=◌}
-use Rattle.expr_grammar.specs.Machine.{State, at_mode, Reduced, is_bad_already, reduce, takes, begins, beyond, past, led, judged, fault, begun, stepped, read, ended, whole, start}
+use Rattle.expr_grammar.specs.Machine.{State, at_mode, is_bad_already, reduce, takes, begins, beyond, past, led, judged, fault, begun, stepped, read, ended, whole, start}
 use Rattle.expr_grammar.specs.declared.expr.Expr.{Expr}
 use Rattle.expr_grammar.specs.declared.fault.ExprFault.{ExprFault}
 use Rattle.expr_grammar.specs.declared.fault.ExprWhat.{ExprWhat}
@@ -15,7 +12,7 @@ use Rattle.expr_grammar.specs.declared.fault.ExprWhat.TheVariants as what
 use Rattle.expr_grammar.specs.declared.state.Frame.{Frame}
 use Rattle.expr_grammar.specs.declared.state.Mode.{Mode}
 use Rattle.expr_grammar.specs.declared.state.Mode.TheVariants as m
-use Rattle.expr_grammar.proofs.Complete.{advance, led_to, allowed, go, go_on, all_of, finish_in}
+use Rattle.expr_grammar.proofs.Complete.{advance, led_to, allowed, go, all_of, finish_in}
 use Rattle.expr_grammar.proofs.Lexical.{inside_continues, Stops, Tidy, stops_tidy, tidy_spaces, tidy_reads}
 use Rattle.expr_grammar.proofs.Standing.{begins_front, taken_token}
 

@@ -1,15 +1,14 @@
 -- What spells a phrase is taken, token after token, and makes its tree.
-use Rattle.std.proofs.Common.{◌≡◌, ℕ, pos, zero, suc, ◌+◌, ◌-◌, ◌*◌, ◌<◌, ◌≤◌, ◌^◌, max, List, [], ◌∷◌, ◌++◌, length, codes, filter, slice_index, Option, Some, None, Bool, true, false, cond, leb, ltb, nat_le, nat_lt, ◌==◌, ◌&&◌, refl, sym, ap, ◌∙◌, append_assoc, append-nil, lit<, arith, rules}
-use Rattle.std.proofs.lemmas.Bool.{le-leb, lt-leb, lt-ltb, leb-true, false≢true, and_parts, and_left, eqb-true}
+use Rattle.std.proofs.Common.{◌≡◌, ℕ, pos, ◌+◌, ◌-◌, ◌*◌, ◌<◌, ◌≤◌, ◌^◌, List, [], ◌∷◌, ◌++◌, length, codes, slice_index, Option, Some, None, Bool, true, false, nat_le, ◌==◌, ◌&&◌, refl, sym, ap, ◌∙◌, append_assoc, append-nil, arith}
+use Rattle.std.proofs.lemmas.Bool.{le-leb, lt-leb, lt-ltb, leb-true, false≢true, and_parts, and_left}
 use Rattle.std.proofs.lemmas.Bool.Decides.{nat_tests}
-use Rattle.std.specs.Str.Parse.{digits_value}
 use Rattle.std.specs.Char.{digit_value}
 use Rattle.tuple_schema.specs.Texts.{is_lower, is_digit}
 use Rattle.expr_grammar.specs.Kinds.{is_plain_name}
 use Rattle.expr_grammar.specs.Tokens.{is_word, is_number, is_text, is_scale, units, places, said}
 use Rattle.expr_grammar.proofs.Columns.{column_plain}
 use Rattle.expr_grammar.specs.Kinds.{kind_of, word_of}
-use Rattle.expr_grammar.specs.Phrases.{Phrase, number, text, name, parens, abs, len, scale, coalesce, choice, joined, denied, negated, is_null, is_not_null, sign, level_of, left_of, right_of, level, IsPhrase, tokens, call, depth, LeavesFit, tree}
+use Rattle.expr_grammar.specs.Phrases.{Phrase, number, text, name, parens, abs, len, scale, coalesce, choice, joined, denied, negated, is_null, is_not_null, sign, level_of, left_of, right_of, level, IsPhrase, tokens, depth, LeavesFit, tree}
 use Rattle.expr_grammar.specs.Machine.{State, at_mode, Reduced, reduce, rank, made, room, hole, takes, takes_in, takes_after, with_operator, with_is, closed_in, parted_in, levels, levels_in, beyond}
 use Rattle.expr_grammar.specs.declared.expr.Expr.{Expr}
 use Rattle.expr_grammar.specs.declared.expr.Expr.TheVariants as e

@@ -1,5 +1,5 @@
 -- Phrases with a hole: what has been taken is the beginning of a phrase, and can be completed.
-use Rattle.std.proofs.Common.{◌≡◌, ℕ, ◌+◌, ◌-◌, ◌<◌, ◌≤◌, List, [], ◌∷◌, ◌++◌, length, codes, slice_index, Bool, true, refl, sym, ap, subst, ◌∙◌, append_assoc, append-nil, lit<, arith}
+use Rattle.std.proofs.Common.{◌≡◌, ℕ, ◌+◌, ◌-◌, ◌≤◌, List, [], ◌∷◌, ◌++◌, codes, slice_index, Bool, true, refl, sym, ap, subst, ◌∙◌, append_assoc, append-nil, lit<, arith}
 use Rattle.expr_grammar.specs.Tokens.{is_scale}
 use Rattle.expr_grammar.specs.Kinds.{word_of}
 use Rattle.expr_grammar.specs.Phrases.{Phrase, number, parens, abs, len, scale, coalesce, choice, joined, denied, negated, is_null, is_not_null, sign, level_of, left_of, right_of, level, IsPhrase, tokens, tree}
@@ -12,7 +12,7 @@ use Rattle.expr_grammar.specs.declared.state.Frame.{Frame}
 use Rattle.expr_grammar.specs.declared.state.Frame.TheVariants as f
 use Rattle.expr_grammar.specs.declared.state.Mode.{Mode}
 use Rattle.expr_grammar.specs.declared.state.Mode.TheVariants as m
-use Rattle.expr_grammar.proofs.Complete.{Room, levels_of, after}
+use Rattle.expr_grammar.proofs.Complete.{Room, levels_of}
 
 -- the tokens are what stands before the hole
 abbrev pub Stands : Bool → List Frame → List (List ℕ) → Type 0

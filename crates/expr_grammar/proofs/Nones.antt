@@ -1,7 +1,7 @@
 -- What a kind that can't stand in a state gives.
-use Rattle.std.proofs.Common.{◌≡◌, ◌≢◌, ℕ, List, Option, None, refl}
+use Rattle.std.proofs.Common.{◌≡◌, ◌≢◌, ℕ, List, None, refl}
 use Rattle.expr_grammar.specs.declared.state.Frame.TheVariants as f
-use Rattle.expr_grammar.specs.Machine.{State, parted_by, takes_opening, takes_after, takes_is, takes_is_not, takes_scaled}
+use Rattle.expr_grammar.specs.Machine.{parted_by, takes_opening, takes_after, takes_is, takes_is_not, takes_scaled}
 use Rattle.expr_grammar.specs.declared.expr.Expr.{Expr}
 use Rattle.expr_grammar.specs.declared.expr.Operator.{Operator}
 use Rattle.expr_grammar.specs.declared.state.Function.{Function}

@@ -1,5 +1,5 @@
 -- What a kind says of a token.
-use Rattle.std.proofs.Common.{◌≡◌, ℕ, ◌-◌, List, [], ◌∷◌, bytes_eq, Bool, true, false, cond, refl}
+use Rattle.std.proofs.Common.{◌≡◌, ℕ, List, [], ◌∷◌, bytes_eq, Bool, true, false, cond, refl}
 use Rattle.std.proofs.lemmas.Slice.Eq.{bytes_eq-Decides}
 use Rattle.expr_grammar.specs.Kinds.{is_plain_name}
 use Rattle.expr_grammar.specs.Tokens.{is_number, is_text}

@@ -1,31 +1,19 @@
 -- What the reader's answer says of the text.
-use Rattle.std.proofs.Common.{◌≡◌, ℕ, zero, suc, ◌+◌, ◌-◌, ◌<◌, ◌≤◌, ◌^◌, List, [], ◌∷◌, ◌++◌, length, codes, Option, Some, None, Result, Ok, Err, Bool, true, false, cond, ◌⊎◌, inl, inr, nat_le, nat_lt, eqb, ◌==◌, refl, sym, ap, subst, ◌∙◌, append_assoc, append-nil, length-append, arith, rules}
-use Rattle.std.specs.List.{list_all}
-use Rattle.std.proofs.lemmas.Bool.{false≢true, true≢false, and_parts, and_from, eqb-true}
-use Rattle.std.specs.Str.Parse.{digits_value}
-use Rattle.expr_grammar.specs.Kinds.{is_plain_name}
-use Rattle.expr_grammar.specs.Tokens.{is_number, is_token, IsLongest, AreSpaces, Reads, Spells}
-use Rattle.expr_grammar.specs.Texts.{IsSpelt, GoesOn, Begins, BeginsWithin, IsBeyond, IsFault}
+use Rattle.std.proofs.Common.{◌≡◌, ℕ, List, [], ◌∷◌, ◌++◌, codes, Some, None, true, false, eqb, refl, sym, ap, subst, ◌∙◌, append_assoc, append-nil, arith}
+use Rattle.std.proofs.lemmas.Bool.{false≢true, and_from}
+use Rattle.expr_grammar.specs.Tokens.{is_token, IsLongest, AreSpaces, Reads, Spells}
+use Rattle.expr_grammar.specs.Texts.{GoesOn}
 use Rattle.expr_grammar.specs.Kinds.{continues}
-use Rattle.expr_grammar.specs.Phrases.{Phrase, number, text, name, parens, abs, len, scale, coalesce, choice, joined, denied, negated, is_null, is_not_null, IsPhrase, tokens, call, depth, LeavesFit, IsWithin, tree, sign}
-use Rattle.tuple_schema.specs.Stops.{◌>>=◌}
-use Rattle.expr_grammar.specs.Machine.{State, at_mode, Reduced, reduce, takes, begins, beyond, past, judged, fault, begun, stepped, read, ended, whole, start}
-use Rattle.expr_grammar.specs.declared.expr.Expr.{Expr}
-use Rattle.expr_grammar.specs.declared.fault.ExprFault.{ExprFault}
+use Rattle.expr_grammar.specs.Phrases.{Phrase, number, text, name, parens, abs, len, scale, coalesce, choice, joined, denied, negated, is_null, is_not_null, IsPhrase, tokens, call, sign}
+use Rattle.expr_grammar.specs.Machine.{State, takes, begins, beyond, start}
 use Rattle.expr_grammar.specs.declared.expr.Operator.{Operator}
 use Rattle.expr_grammar.specs.declared.expr.Operator.TheVariants as op
-use Rattle.expr_grammar.specs.declared.fault.ExprWhat.{ExprWhat}
-use Rattle.expr_grammar.specs.declared.fault.ExprWhat.TheVariants as what
-use Rattle.expr_grammar.specs.declared.state.Frame.{Frame}
-use Rattle.expr_grammar.specs.declared.state.Mode.{Mode}
-use Rattle.expr_grammar.specs.declared.state.Mode.TheVariants as m
 use Rattle.expr_grammar.proofs.Columns.{column_plain}
-use Rattle.expr_grammar.proofs.Complete.{advance, led_to, allowed, go, go_on, tokens_taken, all_of, finish_in, scale_number, word_plain, name_word}
-use Rattle.expr_grammar.proofs.Holes.{Holds, Completed, completed}
-use Rattle.expr_grammar.proofs.Sound.{next_holds, limits_from, Whole, whole_of}
+use Rattle.expr_grammar.proofs.Complete.{go, go_on, scale_number, name_word}
+use Rattle.expr_grammar.proofs.Holes.{Holds, completed}
+use Rattle.expr_grammar.proofs.Sound.{next_holds, limits_from}
 use Rattle.expr_grammar.proofs.Lexical.{Stops, longest_from_stops, no_space, token_word, token_number, token_text}
 use Rattle.expr_grammar.proofs.Standing.{Ended, ended_of, taken_token}
-use Rattle.expr_grammar.proofs.Bytes.{past-none, past-some, past-nothing, read-end, read-step, stepped-on, stepped-off, stepped-past, begun-token, begun-none, read-goes, read-fails, reads_expression}
 
 -- all tokens of a phrase are tokens
 

@@ -1,12 +1,12 @@
 -- The state past a token.
-use Rattle.std.proofs.Common.{◌≡◌, ◌≢◌, ℕ, ◌-◌, ◌<◌, ◌≤◌, ◌^◌, List, [], ◌∷◌, length, slice_index, Bool, true, false, not, cond, ◌&&◌, ◌==◌, nat_le, nat_lt, Option, Some, None, Result, Ok, Err, refl, sym, ap, subst, ◌∙◌, arith}
-use Rattle.std.proofs.lemmas.Bool.{false≢true, and_left, and_right, and_parts, and_from, le-leb, le-ltb, lt-ltb, lt-leb}
+use Rattle.std.proofs.Common.{◌≡◌, ◌≢◌, ℕ, ◌-◌, ◌<◌, ◌≤◌, ◌^◌, List, [], ◌∷◌, length, slice_index, Bool, true, false, not, cond, ◌&&◌, ◌==◌, nat_le, nat_lt, Option, Some, None, Result, Ok, refl, sym, ap, subst, ◌∙◌, arith}
+use Rattle.std.proofs.lemmas.Bool.{false≢true, and_left, and_right, and_parts, le-leb, le-ltb, lt-ltb}
 use Rattle.std.proofs.lemmas.Bool.Decides.{nat_tests}
 use Rattle.tuple_schema.specs.Stops.{GivesView}
 use Rattle.tuple_schema.specs.declared.memory.Stop.{Stop}
 use Rattle.tuple_schema.specs.Texts.{is_digit}
 use Rattle.expr_grammar.specs.Tokens.{is_number, is_text, is_column, is_scale, ends_text, units, said, unquoted}
-use Rattle.expr_grammar.specs.Kinds.{kind_of, begins_number, goes_number, is_plain_name}
+use Rattle.expr_grammar.specs.Kinds.{kind_of, begins_number, goes_number}
 use Rattle.expr_grammar.specs.declared.state.Kind.{Kind}
 use Rattle.expr_grammar.specs.declared.state.Kind.TheVariants as kind
 use Rattle.expr_grammar.specs.declared.expr.Expr.{Expr}

@@ -1,11 +1,11 @@
 -- Digits and a point, with nothing after it.
-use Rattle.std.proofs.Common.{◌≡◌, ℕ, ◌+◌, ◌<◌, ◌≤◌, ◌^◌, List, [], ◌∷◌, ◌++◌, length, filter, Bool, true, false, cond, not, ◌&&◌, ◌⊎◌, inl, inr, nat_le, nat_lt, ◌==◌, refl, sym, ap, ◌∙◌, length-append, arith}
+use Rattle.std.proofs.Common.{◌≡◌, ℕ, List, [], ◌∷◌, ◌++◌, length, filter, Bool, true, false, cond, ◌&&◌, ◌⊎◌, inl, inr, nat_le, ◌==◌, refl, sym, ap, ◌∙◌, arith}
 use Rattle.std.specs.List.{list_all}
 use Rattle.std.proofs.lemmas.Bool.{false≢true, and_parts, and_from, le-leb, eqb-true}
 use Rattle.std.proofs.lemmas.Bool.Decides.{nat_tests}
-use Rattle.tuple_schema.specs.Texts.{is_lower, is_digit}
-use Rattle.expr_grammar.specs.Tokens.{is_number, ends_number, are_places, is_token, units}
-use Rattle.expr_grammar.specs.Kinds.{goes_number, begins_number}
+use Rattle.tuple_schema.specs.Texts.{is_digit}
+use Rattle.expr_grammar.specs.Tokens.{is_number, ends_number, are_places, is_token}
+use Rattle.expr_grammar.specs.Kinds.{goes_number}
 use Rattle.expr_grammar.proofs.Lexical.{tokens_of, symbol_plain, digit_no_letter, not_true}
 
 -- a number without its last point

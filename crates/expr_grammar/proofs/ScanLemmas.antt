@@ -1,12 +1,12 @@
 -- What a scan says of the bytes that it has read.
-use Rattle.std.proofs.Common.{◌≡◌, ◌≢◌, ℕ, zero, suc, ◌+◌, ◌<◌, ◌≤◌, List, [], ◌∷◌, ◌++◌, length, Bool, true, false, not, cond, ◌&&◌, ◌||◌, ◌==◌, nat_le, nat_lt, if◌then◌else◌, refl, sym, ap, ◌∙◌, arith}
+use Rattle.std.proofs.Common.{◌≡◌, ◌≢◌, ℕ, ◌+◌, ◌<◌, ◌≤◌, List, [], ◌∷◌, ◌++◌, length, Bool, true, false, not, cond, ◌&&◌, ◌==◌, nat_le, nat_lt, if◌then◌else◌, refl, sym, ap, ◌∙◌, arith}
 use Rattle.std.proofs.lemmas.Bool.{false≢true, and_right, and_parts, le-leb, leb-true, lt-ltb, lt-leb, ltb-true, ltb-false}
 use Rattle.std.proofs.lemmas.Bool.Decides.{nat_tests}
 use Rattle.std.specs.List.{list_all, list_any}
 use Rattle.tuple_schema.specs.Texts.{is_lower, is_digit, is_name_byte}
 use Rattle.expr_grammar.specs.Tokens.{is_word, is_number, ends_number, are_places, places, is_text, ends_text, is_front, symbols}
 use Rattle.expr_grammar.specs.Kinds.{goes_number, begins_number, goes_text, begins_text, continues}
-use Rattle.expr_grammar.specs.Scans.{scan_first, digits_next, places_next, goes_by, count_of, IsScanned, scan_next, scan_after, scan_of, scans_word, scans_number, is_whole_number, scans_text, is_whole_text}
+use Rattle.expr_grammar.specs.Scans.{scan_first, goes_by, count_of, IsScanned, scan_next, scan_after, scan_of, scans_word, scans_number, is_whole_number, scans_text, is_whole_text}
 use Rattle.expr_grammar.specs.declared.scan.Scan.{Scan}
 use Rattle.expr_grammar.specs.declared.scan.Scan.TheVariants as scan
 

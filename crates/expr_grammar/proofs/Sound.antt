@@ -20,7 +20,7 @@ use Rattle.expr_grammar.specs.declared.state.Frame.TheVariants as f
 use Rattle.expr_grammar.specs.declared.state.Mode.{Mode}
 use Rattle.expr_grammar.specs.declared.state.Mode.TheVariants as m
 use Rattle.expr_grammar.proofs.Columns.{plain_column}
-use Rattle.expr_grammar.proofs.Complete.{allowed, Room, IsPlain, levels_of, reduce-frame, operand, after, all_of, finish_in, call_plain}
+use Rattle.expr_grammar.proofs.Complete.{Room, IsPlain, levels_of, reduce-frame, operand, after, all_of, finish_in, call_plain}
 use Rattle.expr_grammar.proofs.OfKind.{IsOfKind, of_kind}
 use Rattle.expr_grammar.proofs.Holes.{Stands, Stood, HoldsIn, Holds, hole_small, regroup_left, regroup_prefix, regroup_parens, regroup_call, regroup_second, regroup_third, scaled_tokens}
 

@@ -1,17 +1,15 @@
 -- Which tokens can stand in a state, and which bytes begin one.
-use Rattle.std.proofs.Common.{◌≡◌, ℕ, ◌+◌, ◌-◌, ◌<◌, ◌≤◌, List, [], ◌∷◌, ◌++◌, length, codes, slice_index, Option, Some, None, is_some, Bool, true, false, cond, not, ◌&&◌, ◌||◌, ◌⊎◌, inl, inr, nat_le, eqb, ◌==◌, refl, sym, ap, subst, ◌∙◌, append-nil, length-append, arith}
+use Rattle.std.proofs.Common.{◌≡◌, ℕ, ◌-◌, ◌≤◌, List, [], ◌∷◌, ◌++◌, length, codes, slice_index, Option, Some, None, is_some, Bool, true, false, cond, not, ◌&&◌, ◌||◌, ◌⊎◌, inl, inr, nat_le, ◌==◌, refl, sym, ap, ◌∙◌, append-nil, length-append, arith}
 use Rattle.std.specs.List.{list_all, list_any}
 use Rattle.std.proofs.lemmas.Bool.{false≢true, and_parts, and_from, or_cases, or_left, or_right, not_from_false, le-leb, leb-true}
 use Rattle.std.proofs.lemmas.List.Folds.{list_all-append}
 use Rattle.tuple_schema.specs.Texts.{is_lower, is_digit, is_name_byte, is_among}
 use Rattle.expr_grammar.specs.Kinds.{is_plain_name, reserved}
 use Rattle.expr_grammar.specs.Tokens.{is_word, is_number, ends_number, are_places, is_text, ends_text, is_scale, is_token, is_front}
-use Rattle.expr_grammar.specs.Kinds.{kind_of, kind_among, fixed, spelling, goes_number, begins_number, goes_text, begins_text}
-use Rattle.expr_grammar.specs.Machine.{State, at_mode, hole, takes, takes_in, takes_operand, begins, begins_in}
+use Rattle.expr_grammar.specs.Kinds.{kind_of, fixed, spelling, goes_number, begins_number, goes_text, begins_text}
+use Rattle.expr_grammar.specs.Machine.{State, at_mode, takes, takes_in, takes_operand, begins, begins_in}
 use Rattle.expr_grammar.specs.declared.expr.Expr.{Expr}
-use Rattle.expr_grammar.specs.declared.expr.Operator.{Operator}
 use Rattle.expr_grammar.specs.declared.expr.Operator.TheVariants as op
-use Rattle.expr_grammar.specs.declared.state.Function.{Function}
 use Rattle.expr_grammar.specs.declared.state.Function.TheVariants as fn
 use Rattle.expr_grammar.specs.declared.state.Kind.{Kind}
 use Rattle.expr_grammar.specs.declared.state.Kind.TheVariants as kind

@@ -1,12 +1,12 @@
 -- Names are ASCII, and what a text in a text says is UTF-8.
-use Rattle.std.proofs.Common.{◌≡◌, ℕ, zero, suc, ◌+◌, ◌<◌, ◌≤◌, List, [], ◌∷◌, ◌++◌, length, ◌-◌, get_or, take, drop, slice_range, cond, Bool, true, false, not, nat_le, ◌==◌, ◌&&◌, refl, sym, ap, subst, ◌∙◌, append_assoc, append-nil, length-append, length-drop, arith}
+use Rattle.std.proofs.Common.{◌≡◌, ℕ, zero, suc, ◌+◌, ◌<◌, ◌≤◌, List, [], ◌∷◌, ◌++◌, length, ◌-◌, get_or, take, drop, slice_range, cond, Bool, true, false, not, ◌==◌, refl, sym, ap, subst, ◌∙◌, append_assoc, append-nil, length-append, length-drop, arith}
 use Rattle.std.proofs.lemmas.Bool.{false≢true, and_parts, leb-true, eqb-true}
 use Rattle.std.proofs.lemmas.Bool.Decides.{nat_tests}
-use Rattle.std.proofs.lemmas.Str.{IsUtf8-append, IsUtf8-nil, IsUtf8-take, IsUtf8-drop, IsUtf8-from_ascii, IsCharBoundary-before_ascii, IsCharBoundary-after_ascii}
+use Rattle.std.proofs.lemmas.Str.{IsUtf8-append, IsUtf8-take, IsUtf8-drop, IsUtf8-from_ascii, IsCharBoundary-before_ascii, IsCharBoundary-after_ascii}
 use Rattle.std.proofs.lemmas.List.{get_or-drop, drop-drop, take-append-drop}
 use Rattle.std.proofs.Math.Seq.{take-append_seam, get_or-append_seam, drop-append-add}
 use Rattle.std.specs.List.{list_all}
-use Rattle.std.specs.Str.{IsUtf8, IsAscii}
+use Rattle.std.specs.Str.{IsUtf8}
 use Rattle.tuple_schema.specs.Texts.{is_name_byte, is_name}
 use Rattle.expr_grammar.specs.Tokens.{is_column, is_text, ends_text, unquoted, said}
 

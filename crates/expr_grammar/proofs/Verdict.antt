@@ -1,16 +1,15 @@
 -- The reader's answer: an expression, a fault of limits, or the place where nothing goes on.
-use Rattle.std.proofs.Common.{◌≡◌, ℕ, pos, zero, suc, ◌+◌, ◌-◌, ◌<◌, ◌≤◌, ◌^◌, List, [], ◌∷◌, ◌++◌, length, codes, take, filter, not, Option, Some, None, Result, Ok, Err, Bool, true, false, cond, ◌⊎◌, inl, inr, nat_le, nat_lt, eqb, ◌==◌, refl, sym, ap, subst, ◌∙◌, append_assoc, append-nil, length-append, arith, rules}
-use Rattle.std.proofs.lemmas.List.{take-append-le}
-use Rattle.std.proofs.lemmas.Bool.{false≢true, true≢false, and_parts, and_from, eqb-true}
+use Rattle.std.proofs.Common.{◌≡◌, ℕ, pos, ◌+◌, ◌-◌, ◌≤◌, ◌^◌, List, [], ◌∷◌, ◌++◌, length, filter, Option, Some, None, Result, Ok, Err, Bool, true, false, cond, ◌⊎◌, inl, inr, nat_le, nat_lt, eqb, refl, sym, ap, subst, ◌∙◌, append_assoc, append-nil, length-append, arith}
+use Rattle.std.proofs.lemmas.Bool.{false≢true, and_parts, and_from}
 use Rattle.std.specs.Str.Parse.{digits_value}
 use Rattle.tuple_schema.specs.Texts.{is_digit}
-use Rattle.expr_grammar.specs.Tokens.{is_number, ends_number, is_text, is_scale, units, places, said, is_token, IsLongest, AreSpaces, Reads, Spells}
-use Rattle.expr_grammar.specs.Texts.{IsSpelt, GoesOn, Begins, BeginsWithin, IsBeyond, IsFault, StaysWithin, IsUnexpected}
-use Rattle.expr_grammar.specs.Kinds.{kind_of, continues, begins_number, goes_number}
+use Rattle.expr_grammar.specs.Tokens.{is_number, is_text, units, places, said, is_token, IsLongest, Spells}
+use Rattle.expr_grammar.specs.Texts.{GoesOn, Begins, BeginsWithin, IsBeyond, IsFault}
+use Rattle.expr_grammar.specs.Kinds.{kind_of, continues}
 use Rattle.expr_grammar.specs.declared.state.Kind.TheVariants as kind
-use Rattle.expr_grammar.specs.Phrases.{Phrase, IsPhrase, tokens, depth, LeavesFit, IsWithin, tree}
+use Rattle.expr_grammar.specs.Phrases.{Phrase, tokens, depth, LeavesFit, IsWithin, tree}
 use Rattle.tuple_schema.specs.Stops.{◌>>=◌}
-use Rattle.expr_grammar.specs.Machine.{State, at_mode, Reduced, reduce, is_bad_already, takes, takes_in, begins, beyond, levels_in, past, judged, fault, begun, stepped, read, ended, whole, start}
+use Rattle.expr_grammar.specs.Machine.{State, at_mode, reduce, is_bad_already, takes, takes_in, begins, beyond, levels_in, judged, fault, begun, stepped, read, ended, whole, start}
 use Rattle.expr_grammar.specs.declared.expr.Expr.{Expr}
 use Rattle.expr_grammar.specs.declared.expr.Expr.TheVariants as e
 use Rattle.expr_grammar.specs.declared.fault.ExprFault.{ExprFault}
@@ -19,13 +18,13 @@ use Rattle.expr_grammar.specs.declared.fault.ExprWhat.TheVariants as what
 use Rattle.expr_grammar.specs.declared.state.Frame.{Frame}
 use Rattle.expr_grammar.specs.declared.state.Mode.{Mode}
 use Rattle.expr_grammar.specs.declared.state.Mode.TheVariants as m
-use Rattle.expr_grammar.proofs.Complete.{advance, led_to, allowed, go, go_on, tokens_taken, all_of, finish_in, number_kind, after}
+use Rattle.expr_grammar.proofs.Complete.{advance, led_to, allowed, go, tokens_taken, all_of, finish_in, number_kind, after}
 use Rattle.expr_grammar.proofs.Holes.{Holds, Completed, completed}
 use Rattle.expr_grammar.proofs.Sound.{next_holds, limits_from, Whole, whole_of}
-use Rattle.expr_grammar.proofs.Lexical.{Stops, longest_from_stops, inside_continues, not_true, token_number}
-use Rattle.expr_grammar.proofs.Standing.{Ended, ended_of, taken_token}
+use Rattle.expr_grammar.proofs.Lexical.{Stops, longest_from_stops, not_true, token_number}
+use Rattle.expr_grammar.proofs.Standing.{ended_of, taken_token}
 use Rattle.expr_grammar.proofs.Points.{Pointed, pointed, digit_token}
-use Rattle.expr_grammar.proofs.Bytes.{past-none, past-bad, past-some, past-nothing, read-end, read-step, stepped-on, stepped-off, stepped-past, begun-token, begun-none, read-goes, read-fails, reads_expression}
+use Rattle.expr_grammar.proofs.Bytes.{past-none, past-bad, past-some, past-nothing, read-end, stepped-on, stepped-off, stepped-past, begun-token, begun-none, read-goes, read-fails}
 use Rattle.expr_grammar.proofs.Outcome.{Reached, Ready, reached_start, ready_between, ready_token, reached_space, reached_first, reached_longer, goes, regroup_bytes, regroup_words}
 
 abbrev pub Starts : List ℕ → List ℕ → Type 0

@@ -1,5 +1,5 @@
 -- What a token is.
-use Rattle.std.specs.Prelude.{ℕ, nat_le, List, [], ◌∷◌, ◌++◌, length, codes, bytes_eq, Bool, true, false, not, if◌then◌else◌, ◌==◌, ◌&&◌, ◌||◌}
+use Rattle.std.specs.Prelude.{ℕ, nat_le, List, [], ◌∷◌, ◌++◌, length, codes, bytes_eq, Bool, true, false, not, if◌then◌else◌, ◌==◌, ◌&&◌}
 use Rattle.std.specs.List.{list_all, list_any}
 use Rattle.tuple_schema.specs.Texts.{is_lower, is_digit, is_name_byte, is_among}
 use Rattle.expr_grammar.specs.Tokens.{is_word, is_number, is_text, is_front, symbols}

@@ -1,5 +1,5 @@
 -- A reader that takes byte after byte, and refuses the first one with which no text goes on.
-use Rattle.std.specs.Prelude.{pos, ℕ, ◌+◌, ◌-◌, ◌<◌, ◌^◌, nat_le, nat_lt, List, [], ◌∷◌, ◌++◌, length, slice_index, Option, Some, None, is_some, Result, Ok, Err, Bool, true, false, not, ◌&&◌, ◌||◌, ◌==◌, if◌then◌else◌}
+use Rattle.std.specs.Prelude.{pos, ℕ, ◌+◌, ◌-◌, ◌^◌, nat_le, nat_lt, List, [], ◌∷◌, ◌++◌, length, slice_index, Option, Some, None, is_some, Result, Ok, Err, Bool, true, not, ◌&&◌, ◌||◌, ◌==◌, if◌then◌else◌}
 use Rattle.std.specs.List.{list_any}
 use Rattle.expr_grammar.specs.Tokens.{is_word, is_number, is_text, is_scale, is_front, units, places, said}
 use Rattle.tuple_schema.specs.Stops.{◌>>=◌}

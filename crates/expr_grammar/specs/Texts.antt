@@ -1,5 +1,5 @@
 -- The texts of expressions, and what is wrong with others.
-use Rattle.std.specs.Prelude.{◌≡◌, ℕ, true, ◌+◌, ◌<◌, ◌≤◌, List, [], ◌∷◌, ◌++◌, length, take, ◌⊎◌, if◌then◌else◌}
+use Rattle.std.specs.Prelude.{◌≡◌, ℕ, true, ◌+◌, ◌<◌, ◌≤◌, List, [], ◌∷◌, ◌++◌, length, take, ◌⊎◌}
 use Rattle.expr_grammar.specs.Tokens.{Reads, Spells, is_number, is_text}
 use Rattle.expr_grammar.specs.Phrases.{Phrase, IsPhrase, tokens, IsWithin, tree}
 use Rattle.expr_grammar.specs.declared.expr.Expr.{Expr}

@@ -88,7 +88,8 @@ fn followed_by(alloc: Global, left: &Held<'_>, right: &Held<'_>) -> Result<Held<
     }
 }
 
-// What an operator makes of two meanings.
+// What an operator makes of two meanings. It is called for each row, and inlined its result is copied once less.
+#[inline(always)]
 fn joined_by(
     alloc: Global,
     operator: Operator,

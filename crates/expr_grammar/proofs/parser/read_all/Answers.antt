@@ -1,4 +1,4 @@
-use Rattle.std.proofs.Common.{[], drop, reverse, slice_range, refl, arith, true}
+use Rattle.std.proofs.Common.{[], reverse, slice_range, refl, arith, true}
 use Rattle.std.proofs.lemmas.Result.{err_from_is_err_and}
 use Rattle.expr_grammar.specs.Machine.{at_mode, read, start}
 use Rattle.expr_grammar.proofs.ScanLemmas.{scanned_none}
