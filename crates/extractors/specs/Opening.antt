@@ -1,5 +1,5 @@
 -- What is found of a source's file.
-use Rattle.std.specs.Prelude.{ℕ, List, Bool, Result, Err}
+use Rattle.std.specs.Prelude.{List, Bool, Result, Err}
 use Rattle.tuple_schema.specs.declared.value.Value.{Value}
 use Rattle.tuple_schema.specs.declared.schema.Column.{Column}
 use Rattle.outside.specs.Whole.{Found, missing, too_large, bytes}
