@@ -1,15 +1,14 @@
 -- Each input of a node stands before it.
-use Rattle.std.proofs.Common.{◌≡◌, ℕ, zero, suc, ◌+◌, ◌-◌, ◌<◌, ◌≤◌, ◌==◌, List, [], ◌∷◌, ◌++◌, length, map, find, position, get_or, slice_get, Bool, true, false, nat_lt, IfSome, Option, Some, None, All, refl, ap, sym, ◌∙◌, subst, inl, inr, eq-eqb, length-append, arith}
+use Rattle.std.proofs.Common.{◌≡◌, ℕ, zero, suc, ◌+◌, ◌-◌, ◌<◌, ◌≤◌, ◌==◌, List, [], ◌∷◌, ◌++◌, length, position, get_or, slice_get, Bool, true, nat_lt, IfSome, Option, Some, None, All, refl, ap, sym, ◌∙◌, subst, inl, inr, eq-eqb, length-append, arith}
 use Rattle.std.proofs.lemmas.Bool.{cases_lt, both_ways, lt-ltb}
-use Rattle.std.proofs.lemmas.Bool.Decides.{eqb_tells}
 use Rattle.std.proofs.lemmas.Option.{same_Some, slice_get_within, get_or_from_slice_get}
 use Rattle.std.specs.List.{position_or_len}
 use Rattle.std.proofs.lemmas.List.Sums.{fails_before_first}
-use Rattle.std.proofs.lemmas.List.Elements.{All-nil, All-cons, All-append, All-weaker}
+use Rattle.std.proofs.lemmas.List.Elements.{All-nil, All-cons, All-weaker}
 use Rattle.list_algebra.specs.Trees.{Tree, node, Trees, no_trees, tree, roots_of, root_of, in_order, all_in_order, EachNode, EachNodeBelow}
 use Rattle.flow_types.specs.declared.fault.NodeId.{NodeId}
 use Rattle.flow_types.specs.declared.node.Node.{Node}
-use Rattle.flow_types.specs.Flows.{TypedFlow, number_of, ids_of, node_of, root_in, rank_of, IsBelow}
+use Rattle.flow_types.specs.Flows.{TypedFlow, number_of, ids_of, node_of, rank_of, IsBelow}
 use Rattle.flow_types.specs.Linked.{IsFlow}
 use Rattle.flow_types.proofs.TypedTrees.{root_in-tree}
 use Rattle.flow_types.proofs.Ranks.{found_at}

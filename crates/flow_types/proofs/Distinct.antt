@@ -1,5 +1,5 @@
 -- The nodes of a flow have names of their own.
-use Rattle.std.proofs.Common.{◌≡◌, ℕ, zero, suc, ◌<◌, ◌≤◌, ◌==◌, List, [], ◌∷◌, ◌++◌, length, map, get_or, bytes_eq, Bool, true, false, cond, count_by, All, eq-eqb, Option, Some, None, Ok, refl, ap, sym, ◌∙◌, subst, inl, inr, arith}
+use Rattle.std.proofs.Common.{◌≡◌, ℕ, zero, suc, ◌<◌, ◌≤◌, ◌==◌, List, [], ◌∷◌, length, map, get_or, bytes_eq, Bool, true, false, cond, count_by, All, eq-eqb, Option, Some, None, Ok, refl, ap, sym, ◌∙◌, subst, inl, inr, arith}
 use Rattle.std.specs.List.{list_any}
 use Rattle.std.proofs.lemmas.Bool.{cases_lt}
 use Rattle.std.proofs.lemmas.List.{length-map, get_or-map}
@@ -10,7 +10,7 @@ use Rattle.tuple_schema.specs.Schemas.{are_distinct}
 use Rattle.list_algebra.specs.Trees.{Tree, node, Trees, no_trees, tree, roots_of, in_order, all_in_order}
 use Rattle.workflow_file.specs.declared.raw.RawFlow.{RawFlow}
 use Rattle.flow_types.specs.declared.node.Node.{Node}
-use Rattle.flow_types.specs.Names.{least, name_at, is_again, again}
+use Rattle.flow_types.specs.Names.{name_at, is_again, again}
 use Rattle.flow_types.specs.Graph.{names_of, names_differ, graph_of}
 use Rattle.flow_types.specs.Flows.{number_of, columns_of}
 use Rattle.flow_types.specs.NodeTexts.{text_at}

@@ -1,8 +1,7 @@
 -- The inputs that a node names.
-use Rattle.std.proofs.Common.{◌≡◌, ℕ, zero, suc, ◌+◌, ◌-◌, ◌<◌, ◌≤◌, List, [], ◌∷◌, length, map, filter_map, get_or, codes, bytes_eq, Bool, true, false, is_some, is_none, refl, ap, sym, ◌∙◌, ◌⊎◌, inl, inr, Option, Some, None, option_to_list, option_map, option_and_then, slice_get, IfSome, Ok, arith}
+use Rattle.std.proofs.Common.{◌≡◌, ℕ, zero, suc, ◌+◌, ◌-◌, ◌<◌, ◌≤◌, List, [], ◌∷◌, length, map, get_or, codes, bytes_eq, true, false, is_some, is_none, refl, ap, sym, ◌∙◌, ◌⊎◌, inl, inr, Option, Some, None, option_to_list, option_map, option_and_then, slice_get, IfSome, Ok, arith}
 use Rattle.std.specs.List.{list_all}
-use Rattle.std.proofs.lemmas.Bool.{and_parts, cases_Bool, both_ways}
-use Rattle.std.proofs.lemmas.List.Folds.{list_all_at}
+use Rattle.std.proofs.lemmas.Bool.{and_parts, cases_Bool}
 use Rattle.std.proofs.lemmas.List.{append-nil, length-map, length-append, get_or-map, get_or_append_left, get_or-append-add, get_or_past}
 use Rattle.std.proofs.lemmas.Slice.Eq.{bytes_eq-Decides}
 use Rattle.std.proofs.lemmas.Option.{same_Some, slice_get_within, slice_get-get_or}

@@ -1,13 +1,12 @@
 -- In the tree of a graph in which no node is an input twice, no node comes twice.
-use Rattle.std.proofs.Common.{◌≡◌, ℕ, zero, suc, ◌+◌, ◌-◌, ◌<◌, ◌≤◌, ◌==◌, List, [], ◌∷◌, ◌++◌, length, map, get_or, set, replicate, count_by, cond, All, nat_lt, Option, Some, None, option_map, Ok, Err, Bool, true, false, eq-eqb, refl, ap, sym, ◌∙◌, inl, inr, append-nil, arith}
+use Rattle.std.proofs.Common.{◌≡◌, ℕ, zero, suc, ◌+◌, ◌-◌, ◌<◌, ◌≤◌, ◌==◌, List, [], ◌∷◌, ◌++◌, length, map, get_or, set, replicate, count_by, cond, All, nat_lt, Option, Some, None, option_map, Ok, Bool, eq-eqb, refl, ap, sym, ◌∙◌, inl, inr, arith}
 use Rattle.std.specs.List.{concat, sum_by}
 use Rattle.std.proofs.lemmas.List.{get_or-set_other, get_or-replicate}
-use Rattle.std.proofs.lemmas.List.Sums.{sum_by-append, sum_by-cons}
+use Rattle.std.proofs.lemmas.List.Sums.{sum_by-append}
 use Rattle.std.proofs.lemmas.Bool.{cases_lt, ltb-false}
 use Rattle.std.proofs.lemmas.Bool.Decides.{eqb_tells}
-use Rattle.std.proofs.lemmas.List.{length-map, length-append}
 use Rattle.std.proofs.lemmas.List.Elements.{All-nil, All-head, All-tail, All-append, All-cons}
-use Rattle.list_algebra.specs.Trees.{Tree, node, trees_of, in_order, all_in_order}
+use Rattle.list_algebra.specs.Trees.{trees_of, in_order, all_in_order}
 use Rattle.flow_types.specs.Trees.{tree_below}
 use Rattle.flow_types.specs.declared.fault.SchemaCause.TheVariants as cause
 use Rattle.flow_types.specs.Names.{least, refused}

@@ -1,5 +1,5 @@
 -- The place of a node among nodes.
-use Rattle.std.proofs.Common.{◌≡◌, ℕ, ◌≤◌, ◌<◌, List, length, find, position, slice_get, nat_lt, Bool, true, false, refl, sym, ap, ◌∙◌, Option, Some, None, arith}
+use Rattle.std.proofs.Common.{◌≡◌, ℕ, ◌<◌, List, length, find, position, slice_get, nat_lt, Bool, true, false, refl, ap, ◌∙◌, Some, None}
 use Rattle.std.specs.List.{position_or_len}
 use Rattle.std.proofs.lemmas.Bool.{ltb-false, ltb-true}
 use Rattle.std.proofs.lemmas.List.Folds.{find_at}

@@ -1,12 +1,12 @@
 -- The typed nodes of trees, one tree behind the other.
-use Rattle.std.proofs.Common.{◌≡◌, ℕ, zero, suc, ◌-◌, ◌+◌, ◌<◌, ◌≤◌, List, [], ◌∷◌, ◌++◌, length, map, filter_map, take, drop, get_or, slice_get, refl, sym, ap, ◌∙◌, Option, Some, None, All, IfSome, subst, Result, Ok, Err, length-append, append_assoc, append-nil, arith}
+use Rattle.std.proofs.Common.{◌≡◌, ℕ, zero, suc, ◌-◌, ◌+◌, ◌<◌, ◌≤◌, List, [], ◌∷◌, ◌++◌, length, map, filter_map, take, drop, get_or, slice_get, refl, sym, ap, ◌∙◌, Some, All, subst, Ok, Err, length-append, append_assoc, append-nil, arith}
 use Rattle.std.proofs.Math.Seq.{get_or-append_seam}
 use Rattle.std.proofs.lemmas.List.{map-append, take_more, take_all, drop_more, take-append-drop}
 use Rattle.std.proofs.lemmas.List.Elements.{All-nil, All-cons, All-append}
 use Rattle.std.proofs.lemmas.Option.{slice_get-get_or, slice_get_within}
 use Rattle.tuple_schema.specs.declared.memory.Stop.{Stop}
 use Rattle.tuple_schema.specs.declared.memory.Stop.TheVariants as stop
-use Rattle.tuple_schema.specs.Stops.{◌>>=◌, IfFault, Fails}
+use Rattle.tuple_schema.specs.Stops.{IfFault, Fails}
 use Rattle.list_algebra.specs.Trees.{Tree, node, Trees, no_trees, tree, trees_of, root_of, roots_of, in_order, all_in_order, EachNode, EachNodeBelow}
 use Rattle.workflow_file.specs.declared.raw.RawFlow.{RawFlow}
 use Rattle.flow_types.specs.declared.fault.SchemaFault.{SchemaFault}

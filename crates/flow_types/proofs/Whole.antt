@@ -1,6 +1,6 @@
 -- A tree that is as deep as there are nodes, none of which is used twice, is whole.
-use Rattle.std.proofs.Common.{◌≡◌, ℕ, zero, suc, ◌+◌, ◌-◌, ◌<◌, ◌≤◌, List, [], ◌∷◌, ◌++◌, length, map, get_or, refl, ap, sym, ◌∙◌, ◌⊎◌, inl, inr, Ok, length-append, sub-one, arith}
-use Rattle.list_algebra.specs.Trees.{Tree, node, Trees, no_trees, tree, trees_of, in_order, all_in_order}
+use Rattle.std.proofs.Common.{◌≡◌, ℕ, zero, suc, ◌+◌, ◌-◌, ◌<◌, ◌≤◌, List, [], ◌∷◌, length, map, get_or, refl, ap, sym, ◌∙◌, ◌⊎◌, inl, inr, Ok, length-append, sub-one, arith}
+use Rattle.list_algebra.specs.Trees.{node, Trees, no_trees, tree, trees_of, in_order, all_in_order}
 use Rattle.flow_types.specs.Trees.{tree_below, inputs_below, IsWhole}
 use Rattle.flow_types.specs.Graph.{used_once, AreWithin}
 use Rattle.flow_types.proofs.Once.{few_below}

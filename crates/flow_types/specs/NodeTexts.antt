@@ -1,5 +1,5 @@
 -- What a node of a raw flow says, by its kind.
-use Rattle.std.specs.Prelude.{ℕ, ◌-◌, List, length, slice_get, codes, bytes_eq, if◌then◌else◌, Option, Some, None, option_map, option_and_then}
+use Rattle.std.specs.Prelude.{ℕ, ◌-◌, List, length, slice_get, codes, bytes_eq, if◌then◌else◌, Option, None, option_map, option_and_then}
 use Rattle.std.specs.Option.{option_or}
 use Rattle.workflow_file.specs.declared.raw.RawSource.{RawSource}
 use Rattle.workflow_file.specs.declared.raw.RawNode.{RawNode}

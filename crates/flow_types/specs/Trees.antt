@@ -1,5 +1,5 @@
 -- The tree of a node, in a graph of places.
-use Rattle.std.specs.Prelude.{◌≡◌, ℕ, zero, suc, List, [], ◌∷◌, get_or, map}
+use Rattle.std.specs.Prelude.{◌≡◌, ℕ, zero, suc, List, [], get_or, map}
 use Rattle.list_algebra.specs.Trees.{Tree, node, no_trees, trees_of}
 
 -- the tree of a node, at most so many nodes deep below it, where these are the inputs of each node

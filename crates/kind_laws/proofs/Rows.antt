@@ -1,5 +1,5 @@
 -- Rows of whole numbers, and their parts.
-use Rattle.std.proofs.Common.{◌≡◌, ◌∙◌, ℕ, ℤ, zero, suc, ◌+◌, ◌<◌, List, [], ◌∷◌, ◌++◌, length, length-append, slice_get, filter, map, All, Bool, true, false, ◌&&◌, Option, Some, None, IsTrue, refl, ap, sym, subst, arith}
+use Rattle.std.proofs.Common.{◌≡◌, ◌∙◌, ℕ, ℤ, zero, suc, ◌+◌, ◌<◌, List, [], ◌∷◌, ◌++◌, length, length-append, slice_get, All, Bool, true, false, ◌&&◌, Some, refl, ap, subst, arith}
 use Rattle.std.proofs.lemmas.List.Elements.{All-nil, All-head, All-tail, All-weaker, All-map, All-filter}
 use Rattle.tuple_schema.specs.declared.value.Value.{Value}
 use Rattle.tuple_schema.specs.declared.value.Value.TheVariants as value
@@ -11,7 +11,7 @@ use Rattle.tuple_schema.specs.Tuples.{part}
 use Rattle.flow_types.specs.Columns.{IsInt}
 use Rattle.flow_types.specs.declared.node.Node.{Node}
 use Rattle.flow_types.specs.Flows.{columns_in, columns_of}
-use Rattle.flow_types.specs.Linked.{Takes, IsOver, IsLinked}
+use Rattle.flow_types.specs.Linked.{Takes, IsOver}
 use Rattle.plain_where.specs.Truths.{truth_of}
 use Rattle.flow_types.specs.declared.node.Kind.{Kind}
 use Rattle.flow_types.specs.declared.node.Kind.TheVariants as node

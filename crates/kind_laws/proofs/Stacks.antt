@@ -1,13 +1,12 @@
 -- The lists of the trees that stand when nodes were taken one after the other.
-use Rattle.std.proofs.Common.{◌≡◌, ℕ, zero, suc, ◌+◌, ◌-◌, ◌<◌, ◌≤◌, ◌==◌, List, [], ◌∷◌, ◌++◌, length, take, drop, map, fold, get_or, slice_get, set, count_by, cond, All, Bool, true, eq-eqb, Option, Some, None, refl, ap, sym, ◌∙◌, subst, inl, inr, length-append, length-drop, append_assoc, arith}
+use Rattle.std.proofs.Common.{◌≡◌, ℕ, zero, suc, ◌+◌, ◌-◌, ◌<◌, ◌≤◌, ◌==◌, List, [], ◌∷◌, ◌++◌, length, take, drop, map, fold, get_or, slice_get, count_by, cond, All, Bool, true, eq-eqb, Some, refl, ap, sym, ◌∙◌, subst, length-drop, arith}
 use Rattle.std.proofs.lemmas.List.{length-map, map-append, take-map, drop-map, take_all, take_more, drop_more}
 use Rattle.std.proofs.lemmas.List.Elements.{All-nil, All-head, All-tail, All-append, All-cons, All-take, All-drop}
 use Rattle.std.proofs.lemmas.List.Sums.{fold-append, sum_by-cons}
 use Rattle.std.proofs.lemmas.Option.{same_Some}
-use Rattle.tuple_schema.specs.declared.schema.Column.{Column}
 use Rattle.tuple_schema.specs.Schemas.{Fits}
 use Rattle.list_algebra.specs.Bags.{Tuple}
-use Rattle.list_algebra.specs.Trees.{Tree, node, Trees, no_trees, tree, root_of, roots_of, trees_of, with_node, trees_in, EachNext}
+use Rattle.list_algebra.specs.Trees.{Tree, node, root_of, roots_of, trees_of, with_node, trees_in, EachNext}
 use Rattle.flow_types.specs.Columns.{IsInt}
 use Rattle.flow_types.specs.declared.node.Kind.{Kind}
 use Rattle.flow_types.specs.declared.node.Kind.TheVariants as kind
@@ -15,7 +14,7 @@ use Rattle.flow_types.specs.declared.node.Node.{Node}
 use Rattle.flow_types.specs.Flows.{number_of, count_inputs, columns_of, ids_of}
 use Rattle.flow_types.specs.Linked.{IsOver, IsLinked, IsLinkedOver, AreApart}
 use Rattle.kind_laws.specs.Outputs.{output_of}
-use Rattle.kind_laws.specs.Wholes.{Lists, taken, list_of, lists_of}
+use Rattle.kind_laws.specs.Wholes.{Lists, list_of, lists_of}
 use Rattle.kind_laws.specs.Laws.{FitAll, CanTake, OwnFit}
 use Rattle.kind_laws.proofs.Rows.{output_fits}
 

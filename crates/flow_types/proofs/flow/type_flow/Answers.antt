@@ -1,4 +1,4 @@
-use Rattle.std.proofs.Common.{◌≡◌, ◌-◌, length, arith}
+use Rattle.std.proofs.Common.{◌≡◌, length, arith}
 use Rattle.flow_types.specs.Graph.{flow_tree}
 use Rattle.flow_types.proofs.FlowTrees.{flow_of}
 use Rattle.flow_types.proofs.flow.type_flow.Goals as goal

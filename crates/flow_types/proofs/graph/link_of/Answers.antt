@@ -1,4 +1,4 @@
-use Rattle.std.proofs.Common.{◌<◌, map, length, sym, ◌∙◌}
+use Rattle.std.proofs.Common.{◌<◌, length, sym, ◌∙◌}
 use Rattle.std.proofs.lemmas.List.Elements.{All-push}
 use Rattle.flow_types.proofs.Lookups.{found_more, known_more}
 use Rattle.flow_types.proofs.graph.link_of.Goals as goal

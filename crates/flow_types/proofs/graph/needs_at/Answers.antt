@@ -1,4 +1,4 @@
-use Rattle.std.proofs.Common.{◌-◌, sym, ◌∙◌, length, arith}
+use Rattle.std.proofs.Common.{◌-◌, sym, length, arith}
 use Rattle.flow_types.proofs.Needs.{needs_source, needs_past, needs_node}
 use Rattle.flow_types.proofs.graph.needs_at.Goals as goal
 

@@ -1,6 +1,6 @@
-use Rattle.std.proofs.Common.{◌≡◌, ◌<◌, ◌≤◌, ◌+◌, ◌-◌, ◌∙◌, ℕ, All, length, vec_len, ap, sym, subst, arith}
+use Rattle.std.proofs.Common.{◌≡◌, ◌<◌, ◌-◌, ◌∙◌, ℕ, All, length, vec_len, ap, sym, subst, arith}
 use Rattle.flow_types.specs.Trees.{IsWhole}
-use Rattle.flow_types.specs.Graph.{names_of, used_once, flow_tree}
+use Rattle.flow_types.specs.Graph.{names_of, flow_tree}
 use Rattle.list_algebra.specs.Trees.{in_order}
 use Rattle.flow_types.proofs.Needs.{length-names}
 use Rattle.flow_types.proofs.Once.{tree_once, few_below, inside_tree}

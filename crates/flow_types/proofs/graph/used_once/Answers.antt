@@ -1,4 +1,4 @@
-use Rattle.std.proofs.Common.{◌≡◌, ◌<◌, ◌≤◌, length, nat_lt, below_more, arith}
+use Rattle.std.proofs.Common.{◌≡◌, below_more, arith}
 use Rattle.std.proofs.lemmas.Bool.{le-ltb}
 use Rattle.flow_types.specs.Graph.{uses_of}
 use Rattle.flow_types.proofs.Uses.{used_twice, used_by_one}

@@ -1,8 +1,8 @@
-use Rattle.std.proofs.Common.{◌≡◌, ◌<◌, ◌≤◌, ◌-◌, ◌∙◌, ℕ, length, get_or, map, take, vec_len, length-append, sym, ap, arith}
+use Rattle.std.proofs.Common.{◌≡◌, ◌<◌, ◌-◌, length, length-append, ap, arith}
 use Rattle.std.proofs.lemmas.Result.{err_from_is_err_and}
 use Rattle.flow_types.specs.Trees.{tree_below, inputs_below}
 use Rattle.flow_types.proofs.Whole.{whole_below}
-use Rattle.flow_types.proofs.Needs.{count_below, count_links}
+use Rattle.flow_types.proofs.Needs.{count_below}
 use Rattle.flow_types.proofs.TypedTrees.{no_trees_yet, trees_more, ints_behind, roots_within, tree_top, fault_top, fault_in, tree_ints_behind}
 use Rattle.flow_types.proofs.typing.+type_tree.Goals as goal
 

@@ -1,4 +1,4 @@
-use Rattle.std.proofs.Common.{◌≡◌, map, filter_map, slice_get, take, length, vec_len, All}
+use Rattle.std.proofs.Common.{◌≡◌, map, filter_map, slice_get, take, vec_len, All}
 use Rattle.flow_types.specs.Columns.{IsInt}
 use Rattle.flow_types.proofs.typing.nodes_at.Given as goal
 

@@ -1,18 +1,17 @@
-use Rattle.std.proofs.Common.{◌≡◌, ◌≤◌, ◌<◌, ◌+◌, ◌-◌, ℕ, List, [], ◌∷◌, ◌++◌, map, take, drop, length, get_or, slice_get, slice_set, All, Some, refl, ap, sym, ◌∙◌, subst, length-append, arith}
+use Rattle.std.proofs.Common.{◌≡◌, ◌≤◌, ◌+◌, ◌-◌, ℕ, List, [], ◌∷◌, ◌++◌, map, take, drop, length, get_or, slice_get, All, Some, refl, ap, sym, ◌∙◌, subst, length-append, arith}
 use Rattle.std.proofs.lemmas.List.{map-append, length-map, drop-map, take-map, take_all, get_or-set_other}
 use Rattle.std.proofs.lemmas.List.Elements.{All-nil, All-head}
 use Rattle.std.proofs.lemmas.Option.{slice_get_read}
-use Rattle.list_algebra.specs.Trees.{Tree, node, root_of, trees_of, trees_in, with_node, EachNext}
+use Rattle.list_algebra.specs.Trees.{Tree, root_of, trees_in, EachNext}
 use Rattle.tuple_schema.specs.Schemas.{Fits}
 use Rattle.list_algebra.specs.Bags.{Tuple}
 use Rattle.flow_types.specs.declared.node.Node.{Node}
-use Rattle.flow_types.specs.declared.node.Kind.TheVariants as kind
 use Rattle.flow_types.specs.Flows.{number_of, count_inputs, columns_of}
 use Rattle.flow_types.specs.Linked.{IsLinkedOver}
 use Rattle.kind_laws.specs.Outputs.{output_of}
 use Rattle.kind_laws.specs.Laws.{SourcesFit, OwnFit}
-use Rattle.kind_laws.specs.Wholes.{Lists, by_number, list_of}
-use Rattle.kind_laws.proofs.Stacks.{IsFine, Made, made_source, made_other, can_take_last, grown, next_here, roots_grown, lists_grown, fine_grown, enough, apart_at}
+use Rattle.kind_laws.specs.Wholes.{by_number, list_of}
+use Rattle.kind_laws.proofs.Stacks.{IsFine, Made, made_source, made_other, can_take_last, grown, next_here, roots_grown, lists_grown, fine_grown, apart_at}
 use Rattle.kind_laws.proofs.evaluation.whole.Goals as goal
 use Rattle.kind_laws.proofs.evaluation.whole.Goals.{in-Source, in_default+in_ok-split_off-in_default+in_ok-split_off-in_default-2+in_ok-rows-in_default}
 

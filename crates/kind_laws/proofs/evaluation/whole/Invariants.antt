@@ -1,4 +1,4 @@
-use Rattle.std.proofs.Common.{◌≡◌, ◌≤◌, ℕ, List, [], map, take, drop, get_or, slice_get, Some, All}
+use Rattle.std.proofs.Common.{◌≡◌, ◌≤◌, ℕ, [], map, take, drop, get_or, slice_get, Some, All}
 use Rattle.list_algebra.specs.Trees.{root_of, trees_in, EachNext}
 use Rattle.flow_types.specs.declared.node.Node.{Node}
 use Rattle.flow_types.specs.Flows.{number_of, count_inputs}

@@ -1,5 +1,4 @@
-use Rattle.std.proofs.Common.{◌≡◌, ◌==◌, ◌<◌, ◌≤◌, ◌∙◌, length, find, Some, None, IsSome, sym, ap, subst, arith}
-use Rattle.flow_types.specs.declared.node.Node.{Node}
+use Rattle.std.proofs.Common.{◌==◌, ◌∙◌, find, IsSome, sym, arith}
 use Rattle.flow_types.specs.Flows.{number_of}
 use Rattle.flow_types.proofs.Ranks.{found_none, found_within}
 use Rattle.flow_types.proofs.Below.{above_at}

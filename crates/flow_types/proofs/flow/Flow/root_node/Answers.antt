@@ -1,4 +1,4 @@
-use Rattle.std.proofs.Common.{◌≡◌, ◌<◌, ◌≤◌, ◌-◌, length, Some, sym, refl, arith}
+use Rattle.std.proofs.Common.{◌≡◌, ◌-◌, length, Some, sym, refl, arith}
 use Rattle.std.proofs.lemmas.Option.{slice_get_read}
 use Rattle.flow_types.specs.Flows.{root_in}
 use Rattle.flow_types.proofs.FlowTrees.{some_nodes, root_ints, fixed_root}

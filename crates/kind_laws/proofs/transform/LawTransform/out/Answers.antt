@@ -1,4 +1,4 @@
-use Rattle.std.proofs.Common.{◌≡◌, ◌<◌, List, All, map, length, sym, subst}
+use Rattle.std.proofs.Common.{◌<◌, List, All, map, length, subst}
 use Rattle.tuple_schema.specs.declared.value.Value.{Value}
 use Rattle.kind_laws.proofs.Rows.{project_within, only_last}
 use Rattle.kind_laws.proofs.transform.LawTransform.out.Goals as goal
