@@ -1,5 +1,5 @@
 -- What is written in an expression's text is within the limits.
-use Rattle.std.proofs.Common.{◌≡◌, ℕ, pos, List, slice_index, ◌-◌, subst, sym}
+use Rattle.std.proofs.Common.{ℕ, pos, List, slice_index, ◌-◌, subst, sym}
 use Rattle.expr_grammar.specs.declared.expr.Expr.{Expr}
 use Rattle.expr_grammar.specs.Tokens.{units, places, said}
 use Rattle.expr_grammar.specs.Phrases.{Phrase, number, text, name, parens, abs, len, scale, coalesce, choice, joined, denied, negated, is_null, is_not_null, tree}

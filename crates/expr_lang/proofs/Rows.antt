@@ -3,7 +3,7 @@ use Rattle.std.proofs.Common.{◌≡◌, ℕ, ◌≤◌, List, length, Option, S
 use Rattle.std.proofs.lemmas.Option.{slice_get_past}
 use Rattle.tuple_schema.specs.declared.schema.Column.{Column}
 use Rattle.tuple_schema.specs.declared.value.Value.{Value}
-use Rattle.expr_lang.specs.Values.{Meaning, nothing, meaning_if, meaning_at}
+use Rattle.expr_lang.specs.Values.{nothing, meaning_if, meaning_at}
 
 no_value : (c : Option Column) → meaning_if c None ≡ nothing
 no_value None = refl

@@ -1,6 +1,6 @@
 -- The trees of expressions by their parts.
 use Rattle.std.proofs.Common.{◌≡◌, ℕ, ℤ, List, ap, sym, ◌∙◌}
-use Rattle.expr_grammar.specs.declared.expr.Expr.{Expr, fold-Expr, fold-roll-Expr}
+use Rattle.expr_grammar.specs.declared.expr.Expr.{Expr, fold-roll-Expr}
 use Rattle.expr_grammar.specs.declared.expr.Expr.TheOpen.{Expr-F}
 use Rattle.expr_grammar.specs.declared.expr.Expr.TheVariants as e
 use Rattle.expr_grammar.specs.declared.expr.Operator.{Operator}

@@ -1,10 +1,9 @@
 -- Numbers of units that fit i64, and those that don't.
-use Rattle.std.proofs.Common.{◌≡◌, ◌≢◌, ◌<◌, ◌≤◌, ◌^◌, ℕ, zero, suc, ℤ, pos, negsuc, FitsSigned, to_z, of_z, w64, nat_le, true, false, Bool, ◌&&◌, refl, ap, sym, ◌∙◌, arith}
-use Rattle.std.proofs.lemmas.Bool.{lt-ltb, le-ltb, le-leb, lt-leb, and_left, and_right, false_from_ne_true, ltb-true}
+use Rattle.std.proofs.Common.{◌≡◌, ◌≢◌, ◌<◌, ◌≤◌, ◌^◌, ℕ, zero, suc, ℤ, pos, negsuc, FitsSigned, to_z, of_z, w64, nat_le, true, false, ◌&&◌, refl, ap, sym, ◌∙◌}
+use Rattle.std.proofs.lemmas.Bool.{lt-ltb, le-leb, lt-leb, and_right, false_from_ne_true, ltb-true}
 use Rattle.std.specs.Int.{w128}
 use Rattle.std.specs.Prelude.{int_div}
 use Rattle.std.proofs.lemmas.Int.{to_z-of_z}
-use Rattle.std.proofs.lemmas.Bool.Decides.{nat_tests}
 use Rattle.expr_lang.specs.Values.{Meaning, nothing, units, fits64, units_if, times_ten, quotient}
 
 fits : (z : ℤ) → FitsSigned w64 z → fits64 z ≡ true

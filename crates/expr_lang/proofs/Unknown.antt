@@ -1,5 +1,5 @@
 -- The first of two lists that passes a test.
-use Rattle.std.proofs.Common.{◌≡◌, ℕ, List, [], ◌∷◌, ◌++◌, Bool, true, false, cond, Option, Some, None, find, refl, sym, ap, ◌∙◌}
+use Rattle.std.proofs.Common.{◌≡◌, ℕ, List, [], ◌∷◌, ◌++◌, Bool, true, false, cond, Option, Some, find, refl, sym, ap, ◌∙◌}
 use Rattle.std.specs.Option.{option_or}
 
 find_by : (p : List ℕ → Bool) (x : List ℕ) (b : Bool) (rest more whole : Option (List ℕ)) → whole ≡ option_or rest more

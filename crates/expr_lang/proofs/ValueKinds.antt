@@ -1,26 +1,15 @@
 -- The meaning of an expression is of the kind that it has.
-use Rattle.std.proofs.Common.{◌≡◌, ℕ, zero, suc, ℤ, pos, negsuc, ◌+◌, ◌-◌, ◌^◌, ◌≤◌, ◌<◌, ◌+ℤ◌, ◌-ℤ◌, ◌*ℤ◌, max, length, ◌++◌, List, [], ◌∷◌, map, Bool, true, false, ◌||◌, ◌&&◌, ◌==◌, cond, nat_le, ltb, bytes_eq, Option, Some, None, option_map, option_and_then, Ok, Err, Result, IsTrue, All, FitsSigned, w64, find, slice_get, position, refl, sym, ap, subst, ◌∙◌, arith}
-use Rattle.std.specs.Prelude.{int_div, unsigned_abs}
-use Rattle.std.specs.List.{position_or_len}
-use Rattle.std.proofs.lemmas.Bool.{ltb-true, ltb-false, leb-true, eqb-true, lt-ltb, and_parts, false≢true}
+use Rattle.std.proofs.Common.{◌≡◌, ℕ, zero, suc, ℤ, pos, negsuc, ◌+◌, ◌-◌, ◌^◌, ◌≤◌, length, ◌++◌, List, Bool, true, false, ◌||◌, cond, nat_le, Option, Some, None, option_map, FitsSigned, w64, refl, sym, ap, subst, ◌∙◌, arith}
+use Rattle.std.specs.Prelude.{int_div}
+use Rattle.std.proofs.lemmas.Bool.{ltb-true, leb-true, eqb-true, false≢true}
 use Rattle.std.proofs.lemmas.List.{length-append}
-use Rattle.std.proofs.lemmas.List.Elements.{All-head, All-tail}
-use Rattle.std.proofs.lemmas.List.Folds.{find_at}
-use Rattle.tuple_schema.specs.declared.value.Value.{Value}
-use Rattle.tuple_schema.specs.declared.value.Value.TheVariants as value
-use Rattle.tuple_schema.specs.declared.schema.Column.{Column}
 use Rattle.tuple_schema.specs.declared.schema.ColumnKind.{ColumnKind}
 use Rattle.tuple_schema.specs.declared.schema.ColumnKind.TheVariants as kind
-use Rattle.tuple_schema.specs.Schemas.{HasScale, is_of, fits}
-use Rattle.expr_grammar.specs.declared.expr.Operator.{Operator}
-use Rattle.expr_grammar.specs.declared.expr.Operator.TheVariants as op
-use Rattle.expr_lang.specs.Trees.{Tree, number, text, column, joined, denied, negated, is_null, is_not_null, absolute, length_of, rescaled, coalesced, chosen}
-use Rattle.expr_lang.specs.Kinds.{number_kind, places_of, nullable_value, as_number, places_by, arithmetic, are_comparable, comparison, truths, texts, operator_kind, truth_kind, same_number, null_test, length_kind, number_with, is_same_kind, one_kind, choice_kind, column_kind, both_kinds, kind_of, kind_unless, typing}
-use Rattle.expr_lang.specs.Values.{Meaning, nothing, units, bytes, truly, fits64, units_if, times_ten, meaning_in, meaning_if, meaning_at, place_of, truth_in, joined_by, plus, minus, times, over, quotient, followed_by, opposite_number, size, byte_count, rounded, with_places, first_of, choice, meaning, value_in}
-use Rattle.expr_lang.specs.Fits.{IsWithin, LeavesFit, IsTyped, ValueFits}
+use Rattle.tuple_schema.specs.Schemas.{HasScale}
+use Rattle.expr_lang.specs.Kinds.{number_kind, places_of, nullable_value, as_number, places_by, arithmetic, are_comparable, comparison, truths, texts, truth_kind, same_number, null_test, length_kind, number_with, is_same_kind, one_kind, choice_kind}
+use Rattle.expr_lang.specs.Values.{Meaning, nothing, units, bytes, truly, fits64, units_if, times_ten, truth_in, quotient, followed_by, byte_count, rounded, with_places, first_of, choice}
 use Rattle.expr_lang.specs.declared.kind.ExprKind.{ExprKind}
 use Rattle.expr_lang.specs.declared.kind.ExprKind.TheVariants as sort
-use Rattle.expr_lang.specs.declared.kind.TypeFault.{TypeFault}
 use Rattle.expr_lang.specs.declared.logic.Truth.{Truth}
 use Rattle.expr_lang.specs.declared.logic.Truth.TheVariants as truth
 use Rattle.expr_lang.proofs.Units.{inside}
@@ -106,34 +95,34 @@ numeric k n p (bytes t) h is = none_gives (λ r. ⊥) p (ap places_of (sym h.0) 
 numeric k n p (truly t) h is = absurd h
 
 module _ (f : ℕ → ℕ → ℕ) (g : Meaning → Meaning → Meaning)
-  (made : (x : ℤ) (p : ℕ) (y : ℤ) (q : ℕ) → IsNumber (f p q) (g (units x p) (units y q)))
-  (left : (y : Meaning) → g nothing y ≡ nothing) (right : (x : ℤ) (p : ℕ) → g (units x p) nothing ≡ nothing)
+    (made : (x : ℤ) (p : ℕ) (y : ℤ) (q : ℕ) → IsNumber (f p q) (g (units x p) (units y q)))
+    (left : (y : Meaning) → g nothing y ≡ nothing) (right : (x : ℤ) (p : ℕ) → g (units x p) nothing ≡ nothing)
   where
-  result : (p q : ℕ) (x y : Meaning) → Numeric p x → Numeric q y → IsNumber (f p q) (g x y)
-  result p q nothing y h i = subst (IsNumber (f p q)) (sym (left y)) (number_nothing (f p q))
-  result p q (units x a) nothing h i = subst (IsNumber (f p q)) (sym (right x a)) (number_nothing (f p q))
-  result p q (units x a) (units y b) h i =
-      subst (λ a. IsNumber (f p q) (g (units x a) (units y b))) (sym h)
-      (subst (λ b. IsNumber (f p q) (g (units x p) (units y b))) (sym i) (made x p y q))
-  result p q (units x a) (bytes t) h i = absurd i
-  result p q (units x a) (truly t) h i = absurd i
-  result p q (bytes t) y h i = absurd h
-  result p q (truly t) y h i = absurd h
+    result : (p q : ℕ) (x y : Meaning) → Numeric p x → Numeric q y → IsNumber (f p q) (g x y)
+    result p q nothing y h i = subst (IsNumber (f p q)) (sym (left y)) (number_nothing (f p q))
+    result p q (units x a) nothing h i = subst (IsNumber (f p q)) (sym (right x a)) (number_nothing (f p q))
+    result p q (units x a) (units y b) h i =
+        subst (λ a. IsNumber (f p q) (g (units x a) (units y b))) (sym h)
+        (subst (λ b. IsNumber (f p q) (g (units x p) (units y b))) (sym i) (made x p y q))
+    result p q (units x a) (bytes t) h i = absurd i
+    result p q (units x a) (truly t) h i = absurd i
+    result p q (bytes t) y h i = absurd h
+    result p q (truly t) y h i = absurd h
 
-  arithmetic_by : (k l : ColumnKind) (n m : Bool) (s : ExprKind) (x y : Meaning) → HasValue x k n → HasValue y l m
-      → (a b : Option ℕ) → places_of k ≡ a → places_of l ≡ b → as_number (places_by f a b) ≡ Some s → Has s (g x y)
-  arithmetic_by k l n m s x y h i None None is js e = none_gives (λ s. Has s (g x y)) s e
-  arithmetic_by k l n m s x y h i None (Some q) is js e = none_gives (λ s. Has s (g x y)) s e
-  arithmetic_by k l n m s x y h i (Some p) None is js e = none_gives (λ s. Has s (g x y)) s e
-  arithmetic_by k l n m s x y h i (Some p) (Some q) is js e =
-      number_of (f p q) (g x y) s (result p q x y (numeric k n p x h is) (numeric l m q y i js)) (number_kind (f p q)) refl e
+    arithmetic_by : (k l : ColumnKind) (n m : Bool) (s : ExprKind) (x y : Meaning) → HasValue x k n → HasValue y l m
+        → (a b : Option ℕ) → places_of k ≡ a → places_of l ≡ b → as_number (places_by f a b) ≡ Some s → Has s (g x y)
+    arithmetic_by k l n m s x y h i None None is js e = none_gives (λ s. Has s (g x y)) s e
+    arithmetic_by k l n m s x y h i None (Some q) is js e = none_gives (λ s. Has s (g x y)) s e
+    arithmetic_by k l n m s x y h i (Some p) None is js e = none_gives (λ s. Has s (g x y)) s e
+    arithmetic_by k l n m s x y h i (Some p) (Some q) is js e =
+        number_of (f p q) (g x y) s (result p q x y (numeric k n p x h is) (numeric l m q y i js)) (number_kind (f p q)) refl e
 
-  pub arithmetic_has : (a b s : ExprKind) (x y : Meaning) → Has a x → Has b y → arithmetic f a b ≡ Some s → Has s (g x y)
-  arithmetic_has sort.Truth sort.Truth s x y h i e = none_gives (λ s. Has s (g x y)) s e
-  arithmetic_has sort.Truth (sort.Value l m) s x y h i e = none_gives (λ s. Has s (g x y)) s e
-  arithmetic_has (sort.Value k n) sort.Truth s x y h i e = none_gives (λ s. Has s (g x y)) s e
-  arithmetic_has (sort.Value k n) (sort.Value l m) s x y h i e =
-      arithmetic_by k l n m s x y h.1 i.1 (places_of k) (places_of l) refl refl e
+    pub arithmetic_has : (a b s : ExprKind) (x y : Meaning) → Has a x → Has b y → arithmetic f a b ≡ Some s → Has s (g x y)
+    arithmetic_has sort.Truth sort.Truth s x y h i e = none_gives (λ s. Has s (g x y)) s e
+    arithmetic_has sort.Truth (sort.Value l m) s x y h i e = none_gives (λ s. Has s (g x y)) s e
+    arithmetic_has (sort.Value k n) sort.Truth s x y h i e = none_gives (λ s. Has s (g x y)) s e
+    arithmetic_has (sort.Value k n) (sort.Value l m) s x y h i e =
+        arithmetic_by k l n m s x y h.1 i.1 (places_of k) (places_of l) refl refl e
 
 pub over_made : (x : ℤ) (p : ℕ) (y : ℤ) (q : ℕ) → IsNumber p (quotient x p y q)
 over_made x p (pos zero) q = number_nothing p

@@ -6,7 +6,6 @@ use Rattle.tuple_schema.specs.declared.value.Value.TheVariants as value
 use Rattle.tuple_schema.specs.declared.schema.Column.{Column}
 use Rattle.tuple_schema.specs.declared.schema.ColumnKind.{ColumnKind}
 use Rattle.tuple_schema.specs.Schemas.{HasScale, Fits, is_of}
-use Rattle.expr_grammar.specs.declared.expr.Operator.{Operator}
 use Rattle.expr_lang.specs.Trees.{Tree, number, text, column, joined, denied, negated, is_null, is_not_null, absolute, length_of, rescaled, coalesced, chosen}
 use Rattle.expr_lang.specs.Kinds.{typing}
 use Rattle.expr_lang.specs.declared.kind.ExprKind.{ExprKind}

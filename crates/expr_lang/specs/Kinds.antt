@@ -1,5 +1,5 @@
 -- Which expressions have a kind over the columns of a schema, and which.
-use Rattle.std.specs.Prelude.{ℕ, zero, suc, ◌+◌, max, nat_le, List, [], ◌∷◌, ◌++◌, map, find, bytes_eq, Bool, true, false, not, ◌||◌, ◌&&◌, ◌==◌, if◌then◌else◌, Option, Some, None, option_and_then, option_map, Result, Ok, Err}
+use Rattle.std.specs.Prelude.{ℕ, zero, ◌+◌, max, nat_le, List, [], ◌∷◌, ◌++◌, find, bytes_eq, Bool, true, false, not, ◌||◌, ◌==◌, if◌then◌else◌, Option, Some, None, option_and_then, option_map, Result, Ok, Err}
 use Rattle.std.specs.List.{list_any}
 use Rattle.tuple_schema.specs.declared.schema.Column.{Column}
 use Rattle.tuple_schema.specs.declared.schema.ColumnKind.{ColumnKind}

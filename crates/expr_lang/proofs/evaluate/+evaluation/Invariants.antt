@@ -1,4 +1,4 @@
-use Rattle.std.proofs.Common.{ℕ, ◌+◌, ◌*◌, max}
+use Rattle.std.proofs.Common.{◌+◌, ◌*◌, max}
 use Rattle.expr_grammar.proofs.expr.Expr.TheLaws.{the_size}
 use Rattle.expr_lang.proofs.evaluate.+evaluation.Given as goal
 
