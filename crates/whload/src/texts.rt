@@ -178,10 +178,24 @@ fn source_line(alloc: Global, name: &Text, what: SourceWhat) -> Result<String, A
     ensures { IfOk result (λ text. string_bytes text
         ≡ codes "whload: " ++ (codes "source " ++ (name.now ++ source_text what)) ++ codes "\n") }
 {
-    let SourceWhat::Csv(fault) = what;
+    let text = source_of(alloc, name, what)?;
+    format!(in alloc; "whload: {text}\n")
+}
+
+fn source_of(alloc: Global, name: &Text, what: SourceWhat) -> Result<String, AllocError>
+    ensures { IfOk result (λ text. string_bytes text ≡ codes "source " ++ (name.now ++ source_text what)) }
+{
     let source = name.as_str();
-    let text = csv_text(alloc, fault)?;
-    format!(in alloc; "whload: source {source}{text}\n")
+    let what = what_text(alloc, what)?;
+    format!(in alloc; "source {source}{what}")
+}
+
+fn what_text(alloc: Global, what: SourceWhat) -> Result<String, AllocError>
+    ensures { IfOk result (λ text. string_bytes text ≡ source_text what) }
+{
+    match what {
+        SourceWhat::Csv(fault) => csv_text(alloc, fault),
+    }
 }
 
 fn csv_text(alloc: Global, fault: CsvFault) -> Result<String, AllocError>
