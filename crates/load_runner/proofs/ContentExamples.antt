@@ -1,5 +1,5 @@
 -- Contents of sources, computed.
-use Rattle.std.proofs.Common.{◌≡◌, List, [], ◌∷◌, Result, Ok, Err, pos, refl}
+use Rattle.std.proofs.Common.{◌≡◌, [], ◌∷◌, Ok, Err, pos, refl}
 use Rattle.tuple_schema.specs.declared.value.Value.TheVariants as value
 use Rattle.list_algebra.specs.Bags.{Tuple}
 use Rattle.extractors.specs.declared.fault.CsvFault.TheVariants as csv

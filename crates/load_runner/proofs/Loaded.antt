@@ -1,7 +1,7 @@
 -- The promise of a load, for each way in which it ends.
-use Rattle.std.proofs.Common.{◌≡◌, ◌≢◌, ◌⊎◌, ◌≤◌, inl, inr, ◌∙◌, ℕ, ◌+◌, List, [], ◌++◌, length, take, drop, All, IfOk, IfSome, OnOk, Bool, true, false, IsTrue, Option, Some, None, Result, Ok, Err, refl, sym, ap, subst, arith}
+use Rattle.std.proofs.Common.{◌≡◌, ◌≢◌, ◌≤◌, inl, inr, ◌∙◌, ℕ, ◌+◌, List, [], ◌++◌, length, take, drop, All, IfOk, OnOk, Bool, true, false, IsTrue, Option, Some, Result, Ok, Err, refl, sym, ap, subst, arith}
 use Rattle.outside.specs.Moments.{rose_later, each_settled}
-use Rattle.outside.specs.Words.{Rose, Each, DiskState, Elapses, IsSettled, Spares, AtEachMoment, Files, DepotState, Consults}
+use Rattle.outside.specs.Words.{Rose, Each, DiskState, Elapses, IsSettled, Spares, Files, DepotState, Consults}
 use Rattle.tuple_schema.specs.declared.value.Value.{Value}
 use Rattle.tuple_schema.specs.declared.schema.Column.{Column}
 use Rattle.tuple_schema.specs.declared.memory.Stop.{Stop}
@@ -9,18 +9,15 @@ use Rattle.tuple_schema.specs.declared.memory.Stop.TheVariants.{Memory, Fault}
 use Rattle.tuple_schema.specs.Stops.{IfFault}
 use Rattle.row_codec.specs.Decoding.{IsRowOf}
 use Rattle.commit_disk.specs.declared.attaching.Attached.{Attached}
-use Rattle.commit_disk.specs.declared.attaching.Attached.TheVariants.{NotMade, Made}
-use Rattle.commit_disk.specs.Table.{Stored, Holds, HoldsUpTo, HoldsOnce, front}
+use Rattle.commit_disk.specs.Table.{Stored, Holds, HoldsOnce, front}
 use Rattle.commit_disk.specs.Attach.{VerdictsAgree}
-use Rattle.commit_disk.specs.Crashes.{HasTable, LosesNothing}
 use Rattle.commit_disk.specs.Growth.{grows_still, nothing_lost}
 use Rattle.table_read.specs.Rows.{table_rows}
 use Rattle.table_write.specs.Cut.{cut, together}
 use Rattle.table_write.specs.Adds.{with_blocks, AllHaveRoom, IsFullBehind}
-use Rattle.table_write.specs.Rows.{HoldsRows, HoldsFirst}
+use Rattle.table_write.specs.Rows.{HoldsRows}
 use Rattle.flow_types.specs.declared.node.Node.{Node}
 use Rattle.flow_types.specs.Flows.{root_in, has_fixed_root}
-use Rattle.kind_laws.specs.Runs.{at_root}
 use Rattle.load_runner.specs.declared.fault.LoadFault.{LoadFault}
 use Rattle.load_runner.specs.declared.fault.SourceFault.{SourceFault}
 use Rattle.load_runner.specs.declared.fault.LoadFault.TheVariants as fault
@@ -28,18 +25,17 @@ use Rattle.load_runner.specs.declared.report.Report.{Report}
 use Rattle.load_runner.specs.Faults.{IsTableFault}
 use Rattle.load_runner.specs.Found.{State, rows, wrong, other, IsFound}
 use Rattle.load_runner.specs.Jobs.{Job, Answer, columns_of, run_blocks, IsMade, missing_blocks}
-use Rattle.load_runner.specs.Loads.{IsNextGate, IsComplete, IsFull, StoppedAdding, Leaves, AddsTo, FailsOutside, Stays, Does, RestsOn, Loads}
-use Rattle.load_runner.specs.Reports.{report_of, ended_report, skip_report}
+use Rattle.load_runner.specs.Loads.{IsNextGate, IsComplete, IsFull, StoppedAdding, Leaves, AddsTo, FailsOutside, Does, RestsOn, Loads}
+use Rattle.load_runner.specs.Reports.{ended_report, skip_report}
 use Rattle.load_runner.specs.Resuming.{IsUnwritten, IsCaused, AllAdded}
 use Rattle.load_runner.specs.Safe.{IsStopped, IsSafe, HoldsAll}
 use Rattle.load_runner.specs.Sources.{contents_in, IsMeaning}
-use Rattle.load_runner.specs.Starts.{IsAt, is_ended, count_of, gate_of, Starts}
+use Rattle.load_runner.specs.Starts.{IsAt, count_of, gate_of}
 use Rattle.load_runner.proofs.Begun.{BlocksHold}
-use Rattle.load_runner.proofs.Ran.{CutIs, StillFirst, StillEnded, CanResume, MeansOne, Ran, in_rows, kept_all, safe_all, grows_all, grows_blocks, begins_committed, committed, olds, held, decodes, at, is_at, counted, adds, added_rows}
+use Rattle.load_runner.proofs.Ran.{CutIs, StillFirst, StillEnded, CanResume, MeansOne, Ran, in_rows, begins_committed, committed, olds, held, decodes, at, is_at, counted, adds, added_rows}
 use Rattle.load_runner.specs.Standing.{Stands}
-use Rattle.load_runner.proofs.Meanings.{Resumed}
 use Rattle.load_runner.proofs.Standings.{Lengths, all_of_stands, all_rows}
-use Rattle.load_runner.proofs.Tables.{found_once, not_both, rows_once}
+use Rattle.load_runner.proofs.Tables.{found_once, rows_once}
 
 -- the depot was not asked
 pub unasked : (depot : DepotState) → Consults depot depot
@@ -310,7 +306,7 @@ module _ (agree : VerdictsAgree) (once : HoldsOnce) (law : BlocksHold) (cuts : C
       let rows_are : rows_of ++ together (Blocks (length rows_of)) ≡ whole =
       ap (λ rs. rows_of ++ rs) (sym cut_is ∙ ap (drop (length rows_of)) made) ∙ all_rows rows_of whole begins in
       let held : HoldsRows new.file job.text (columns_of job) whole true = subst (λ rs. HoldsRows new.file job.text (columns_of job) rs true) rows_are
-          (added_rows agree once law job told found_of old mid new ran new.file (Blocks (length rows_of)) true holds (subst (λ rs. All (IsRowOf (columns_of job)) rs) cut_is own)) in
+      (added_rows agree once law job told found_of old mid new ran new.file (Blocks (length rows_of)) true holds (subst (λ rs. All (IsRowOf (columns_of job)) rs) cut_is own)) in
       each_settled (HoldsAll job.text (columns_of job) (has_fixed_root job.flow.nodes) whole) new settled
       (record { rows = whole; holds = held; all = record { bag = λ tuple. refl; list = λ _. refl } })
 

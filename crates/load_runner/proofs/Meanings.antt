@@ -1,5 +1,5 @@
 -- What a flow means over files, and the runs over their contents.
-use Rattle.std.proofs.Common.{◌≡◌, ◌≤◌, ◌+◌, ◌-◌, ◌==◌, ◌∙◌, ℕ, zero, suc, min, List, [], ◌∷◌, ◌++◌, length, map, drop, cond, All, Bool, true, false, ◌&&◌, IsTrue, Option, Some, None, Result, Ok, option_map, refl, sym, ap, subst, eq-eqb, inl, inr, arith}
+use Rattle.std.proofs.Common.{◌≡◌, ◌-◌, ◌∙◌, ℕ, min, List, [], ◌∷◌, ◌++◌, length, map, drop, All, Bool, true, false, ◌&&◌, Option, Some, Result, Ok, option_map, refl, sym, ap, subst, inl, inr, arith}
 use Rattle.std.specs.List.{filter, list_all}
 use Rattle.std.proofs.Math.Dec.{eqb-suc-zero}
 use Rattle.std.proofs.lemmas.Bool.{cases_lt}
@@ -9,22 +9,18 @@ use Rattle.std.proofs.lemmas.Option.{same_Some}
 use Rattle.list_algebra.specs.Bags.{Tuple}
 use Rattle.list_algebra.specs.Trees.{Tree, node, Trees, no_trees, tree, root_of, roots_of, in_order, all_in_order, EachNode, EachNodeBelow}
 use Rattle.outside.specs.Words.{Files}
-use Rattle.tuple_schema.specs.declared.schema.Column.{Column}
 use Rattle.flow_types.specs.declared.node.Kind.{Kind}
 use Rattle.flow_types.specs.declared.node.Kind.TheVariants as kind
 use Rattle.flow_types.specs.declared.node.Node.{Node}
-use Rattle.flow_types.specs.Flows.{TypedFlow, number_of, root_in, tree_of, columns_of, keeps_order, has_fixed_root}
+use Rattle.flow_types.specs.Flows.{TypedFlow, root_in, tree_of, columns_of, keeps_order, has_fixed_root}
 use Rattle.flow_types.specs.Linked.{IsOver, IsLinkedOver, IsFlow}
-use Rattle.kind_laws.specs.Outputs.{output_of}
 use Rattle.kind_laws.specs.Wholes.{Lists, by_number, taken, list_of, lists_of, whole_of}
-use Rattle.kind_laws.specs.Promises.{IsListed, ListsTruth, IsListing}
+use Rattle.kind_laws.specs.Promises.{ListsTruth, IsListing}
 use Rattle.kind_laws.specs.Runs.{Yield, at_root}
-use Rattle.load_runner.specs.declared.report.EdgeCount.{EdgeCount}
-use Rattle.load_runner.specs.declared.report.Report.{Report}
 use Rattle.load_runner.specs.declared.fault.SourceFault.{SourceFault}
 use Rattle.load_runner.specs.Jobs.{IsMade}
 use Rattle.load_runner.specs.Reports.{count_on, counts_of, report_of, skip_counts, skip_report}
-use Rattle.load_runner.specs.Sources.{contents_in, KeepsTruth, IsMeaning}
+use Rattle.load_runner.specs.Sources.{IsMeaning}
 use Rattle.load_runner.specs.Trimmed.{is_root, IsTrimmedRun, Resumes}
 use Rattle.load_runner.proofs.Runs.{all_left, all_right, Rooted, rooted, Trimming, trimming, brings_behind}
 
@@ -53,8 +49,8 @@ mutual
   same_list truth listing (node n trees) linked ordered listed =
       let inputs = same_lists truth listing trees linked.1 (all_left IsOrdered (all_in_order trees) (n ∷ []) ordered) (all_left (Lists_ truth listing) (all_in_order trees) (n ∷ []) listed) in
       let own = own_same truth listing n n.kind trees refl linked.0.over
-          (All-head IsOrdered n [] (all_right IsOrdered (all_in_order trees) (n ∷ []) ordered))
-          (All-head (Lists_ truth listing) n [] (all_right (Lists_ truth listing) (all_in_order trees) (n ∷ []) listed)) in
+      (All-head IsOrdered n [] (all_right IsOrdered (all_in_order trees) (n ∷ []) ordered))
+      (All-head (Lists_ truth listing) n [] (all_right (Lists_ truth listing) (all_in_order trees) (n ∷ []) listed)) in
       rw (inputs, own) refl
 
   same_lists : (truth listing : Lists) (trees : Trees Node) → EachNodeBelow IsLinkedOver trees → All IsOrdered (all_in_order trees) → All (Lists_ truth listing) (all_in_order trees)

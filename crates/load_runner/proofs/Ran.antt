@@ -1,7 +1,7 @@
 -- A load that went on: what a crash leaves at each moment of it, and what stands behind it.
-use Rattle.std.proofs.Common.{◌≡◌, ◌≤◌, ◌⊎◌, inl, inr, ⊎_elim, ◌∙◌, ℕ, ◌+◌, List, [], ◌++◌, length, take, drop, All, Bool, true, false, IsTrue, Option, Some, Ok, map, refl, sym, ap, subst, append_assoc, append-nil, arith}
+use Rattle.std.proofs.Common.{◌≡◌, ◌≤◌, ◌⊎◌, inl, inr, ⊎_elim, ◌∙◌, ℕ, ◌+◌, List, [], ◌++◌, length, take, drop, All, Bool, true, false, IsTrue, Option, Some, Ok, map, sym, ap, subst, append_assoc, append-nil, arith}
 use Rattle.outside.specs.Words.{Each, DiskState, Elapses, IsSettled, Syncs, Spares, OnlyReads, LeftBetween, AtEachMoment, LeavesNothingNew, Files}
-use Rattle.outside.specs.Moments.{time_on, each_on, each_settled, nothing_new_on}
+use Rattle.outside.specs.Moments.{each_on, each_settled, nothing_new_on}
 use Rattle.tuple_schema.specs.declared.value.Value.{Value}
 use Rattle.tuple_schema.specs.declared.schema.Column.{Column}
 use Rattle.commit_disk.specs.declared.attaching.Attached.{Attached}
@@ -13,10 +13,10 @@ use Rattle.commit_disk.specs.Crashes.{Grows, HasStill, HasTable}
 use Rattle.commit_disk.specs.Growth.{grows_on, grows_still}
 use Rattle.table_write.specs.Cut.{IsCut, cut, together}
 use Rattle.table_read.specs.Rows.{table_rows}
-use Rattle.table_write.specs.Adds.{with_blocks, AllHaveRoom, IsFullBehind}
+use Rattle.table_write.specs.Adds.{with_blocks}
 use Rattle.table_write.specs.Rows.{HoldsRows, HoldsFirst, HoldsEnded, stored_of}
-use Rattle.load_runner.specs.Standing.{Begins, Stands}
-use Rattle.load_runner.specs.Safe.{IsSafe, TableGrows, IsGrown, IsStopped}
+use Rattle.load_runner.specs.Standing.{Begins}
+use Rattle.load_runner.specs.Safe.{IsSafe, TableGrows, IsGrown}
 use Rattle.load_runner.specs.Sources.{IsMeaning}
 use Rattle.load_runner.specs.Starts.{Starts, IsAt, count_of, is_ended, gate_of}
 use Rattle.load_runner.specs.Jobs.{Job, columns_of, run_blocks, IsMade, missing_blocks}

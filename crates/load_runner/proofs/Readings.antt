@@ -1,5 +1,5 @@
 -- What was read, and what a stop of reading says.
-use Rattle.std.proofs.Common.{◌≡◌, ℕ, Option, Some, None, Result, Ok, Err, refl, ap, sym, ◌∙◌}
+use Rattle.std.proofs.Common.{◌≡◌, ℕ, Some, None, Result, Ok, Err, refl, ap}
 use Rattle.std.proofs.lemmas.Option.{same_Some}
 use Rattle.tuple_schema.specs.declared.memory.Stop.{Stop}
 use Rattle.tuple_schema.specs.declared.memory.Stop.TheVariants as stop
@@ -8,7 +8,7 @@ use Rattle.commit_disk.specs.declared.attaching.TableFault.TheVariants as table
 use Rattle.table_read.specs.Places.{wrong_place}
 use Rattle.load_runner.specs.declared.fault.LoadFault.{LoadFault}
 use Rattle.load_runner.specs.declared.fault.LoadFault.TheVariants as fault
-use Rattle.load_runner.specs.Starts.{of_table, stop_of_table}
+use Rattle.load_runner.specs.Starts.{stop_of_table}
 
 -- where no place is wrong, all was read
 pub all_read : {X : Type 0} (reading : Result X ℕ) → wrong_place reading ≡ None → (x : X) × (reading ≡ Ok x)

@@ -1,5 +1,5 @@
 -- Trimmed runs of a flow: there is one, and any of them brings what stands behind the committed rows.
-use Rattle.std.proofs.Common.{◌≡◌, ◌≤◌, ◌+◌, ◌==◌, ◌∙◌, ℕ, zero, suc, List, [], ◌∷◌, ◌++◌, length, map, drop, cond, count_by, All, Bool, true, false, IsTrue, Option, Some, None, refl, sym, ap, subst, eq-eqb, inl, inr, arith}
+use Rattle.std.proofs.Common.{◌≡◌, ◌≤◌, ◌==◌, ◌∙◌, ℕ, List, [], ◌∷◌, ◌++◌, length, map, drop, cond, count_by, All, Bool, true, false, Some, refl, sym, ap, subst, eq-eqb, inl, inr, arith}
 use Rattle.std.proofs.lemmas.Bool.{cases_Bool}
 use Rattle.std.proofs.lemmas.List.Elements.{All-nil, All-head, All-tail, All-cons, All-append}
 use Rattle.std.proofs.lemmas.List.Sums.{sum_by-cons}
@@ -7,12 +7,12 @@ use Rattle.std.proofs.lemmas.Option.{same_Some}
 use Rattle.list_algebra.specs.Bags.{Tuple}
 use Rattle.list_algebra.specs.Trees.{Tree, node, Trees, no_trees, tree, root_of, roots_of, in_order, all_in_order, seen_tree, seen_trees, EachNode, EachNodeBelow}
 use Rattle.flow_types.specs.declared.node.Node.{Node}
-use Rattle.flow_types.specs.Flows.{TypedFlow, number_of, root_in, tree_of, columns_of}
-use Rattle.flow_types.specs.Linked.{IsFlow, AreApart}
+use Rattle.flow_types.specs.Flows.{TypedFlow, number_of, root_in}
+use Rattle.flow_types.specs.Linked.{IsFlow}
 use Rattle.kind_laws.specs.Outputs.{output_of}
 use Rattle.kind_laws.specs.Wholes.{Lists, taken, list_of, lists_of}
-use Rattle.kind_laws.specs.Runs.{Yield, brought, columns_below, Yields, IsRun, at_root}
-use Rattle.load_runner.specs.Trimmed.{is_node, is_root, kept_on, IsTrimmedRun}
+use Rattle.kind_laws.specs.Runs.{Yield, brought, columns_below, Yields, at_root}
+use Rattle.load_runner.specs.Trimmed.{is_root, kept_on, IsTrimmedRun}
 
 -- All of two lists, one behind the other.
 

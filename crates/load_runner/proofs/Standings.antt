@@ -1,6 +1,5 @@
 -- Rows that stand, and those that a load adds to them.
-use Rattle.std.proofs.Common.{◌≡◌, ◌≤◌, ◌<◌, ◌+◌, ◌-◌, ℕ, List, [], ◌∷◌, ◌++◌, length, length-append, take, drop, Bool, true, false, IsTrue, inl, inr, refl, sym, ap, ◌∙◌, append_assoc, subst, arith}
-use Rattle.std.specs.List.{flat_map}
+use Rattle.std.proofs.Common.{◌≡◌, ◌+◌, ℕ, List, [], ◌∷◌, ◌++◌, length, length-append, take, drop, Bool, true, false, IsTrue, inl, inr, refl, sym, ap, ◌∙◌, append_assoc, arith}
 use Rattle.std.proofs.lemmas.List.{take_all, take-append-drop, append-nil}
 use Rattle.std.proofs.Math.Seq.{drop-append_seam}
 use Rattle.std.proofs.lemmas.Grind.{flat_map-append}
@@ -12,7 +11,7 @@ use Rattle.kind_laws.specs.Wholes.{Lists}
 use Rattle.load_runner.specs.Missing.{IsAllMissing}
 use Rattle.load_runner.specs.Standing.{Begins, Stands, IsAll}
 use Rattle.load_runner.specs.Trimmed.{IsRest}
-use Rattle.load_runner.specs.Histories.{Standing, nothing, Adds, IsStep, IsHistoryFrom, AllStandFrom}
+use Rattle.load_runner.specs.Histories.{Standing, nothing, IsStep, IsHistoryFrom, AllStandFrom}
 
 pub begins_itself : (rows : List (List Value)) → Begins rows rows
 begins_itself rows = record { others = []; whole_is = sym (append-nil rows) }

@@ -1,5 +1,5 @@
 -- What a load leaves is a step of a history.
-use Rattle.std.proofs.Common.{All, subst, IsTrue, ◌≡◌, ◌≤◌, ◌+◌, ◌⊎◌, ℕ, List, [], ◌++◌, length, take, drop, Bool, false, Ok, inl, inr, refl, sym, ap, ◌∙◌}
+use Rattle.std.proofs.Common.{All, subst, IsTrue, ◌≡◌, ◌≤◌, ◌+◌, ℕ, List, [], ◌++◌, length, take, Bool, false, Ok, inl, inr, refl, sym, ap, ◌∙◌}
 use Rattle.tuple_schema.specs.declared.value.Value.{Value}
 use Rattle.tuple_schema.specs.declared.schema.Column.{Column}
 use Rattle.row_codec.specs.Decoding.{IsRowOf}
@@ -13,7 +13,7 @@ use Rattle.flow_types.specs.Flows.{TypedFlow}
 use Rattle.kind_laws.specs.Wholes.{Lists}
 use Rattle.load_runner.specs.Trimmed.{IsRest}
 use Rattle.load_runner.specs.Safe.{IsGrown}
-use Rattle.load_runner.specs.Histories.{Standing, IsStep}
+use Rattle.load_runner.specs.Histories.{IsStep}
 use Rattle.load_runner.proofs.Tables.{rows_once, same_rows}
 
 -- a table without blocks has no rows

@@ -1,24 +1,20 @@
 -- Of an image and a text there is one table, and one list of rows.
-use Rattle.std.proofs.Common.{◌≡◌, ◌≢◌, ◌≤◌, ◌⊎◌, inl, inr, ◌∙◌, ℕ, zero, suc, ◌+◌, List, [], ◌∷◌, ◌++◌, length, Bool, true, false, Result, Ok, Err, refl, sym, ap, subst, append_assoc, append-nil, length-append, arith}
-use Rattle.std.specs.List.{sum_by}
+use Rattle.std.proofs.Common.{◌≡◌, inl, inr, ◌∙◌, ℕ, zero, suc, ◌+◌, List, [], ◌∷◌, ◌++◌, length, Bool, true, Result, Ok, Err, refl, sym, ap, length-append, arith}
 use Rattle.std.proofs.lemmas.List.Sums.{sum_by-cons}
 use Rattle.tuple_schema.specs.declared.value.Value.{Value}
 use Rattle.tuple_schema.specs.declared.schema.Column.{Column}
-use Rattle.tuple_schema.specs.declared.memory.Stop.{Stop}
-use Rattle.tuple_schema.specs.declared.memory.Stop.TheVariants.{Memory, Fault}
+use Rattle.tuple_schema.specs.declared.memory.Stop.TheVariants.{Fault}
 use Rattle.tuple_schema.specs.Stops.{◌>>=◌}
 use Rattle.row_codec.specs.Rows.{row_bytes}
 use Rattle.row_codec.specs.Decoding.{row_at}
-use Rattle.commit_disk.specs.declared.attaching.TableFault.TheVariants.{Disk, NotATable, WorkflowDiffers}
-use Rattle.commit_disk.specs.declared.attaching.TableFault.{TableFault}
-use Rattle.commit_disk.specs.declared.attaching.Attached.{Attached}
+use Rattle.commit_disk.specs.declared.attaching.TableFault.TheVariants.{NotATable, WorkflowDiffers}
 use Rattle.commit_disk.specs.declared.attaching.Attached.TheVariants.{NotMade, Made}
-use Rattle.commit_disk.specs.Table.{Stored, Holds, HoldsUpTo, HoldsOnce, IsNotMade, front}
+use Rattle.commit_disk.specs.Table.{Stored, Holds, HoldsOnce, IsNotMade, front}
 use Rattle.commit_disk.specs.Journal.{JournalState}
-use Rattle.commit_disk.specs.Attach.{TellsOf, AttachTells, IsVerdict, VerdictsAgree, rows_in}
+use Rattle.commit_disk.specs.Attach.{TellsOf, VerdictsAgree, rows_in}
 use Rattle.table_read.specs.Rows.{or_place, no_rows_at, rows_at, block_rows, next_gate, table_rows}
-use Rattle.table_write.specs.Rows.{HasRows, HoldsRows}
-use Rattle.load_runner.specs.Found.{State, rows, wrong, other, IsFound, HasWrongRow}
+use Rattle.table_write.specs.Rows.{HoldsRows}
+use Rattle.load_runner.specs.Found.{State, rows, wrong, other, IsFound}
 
 -- what a reading that goes on has read first
 bind_ok : {A B F : Type 0} (first : Result A F) (next : A → Result B F) (b : B) → (first >>= next) ≡ Ok b → (a : A) × (first ≡ Ok a) × (next a ≡ Ok b)

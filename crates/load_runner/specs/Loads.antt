@@ -1,8 +1,7 @@
 -- What a load promises: what stays true, what is never lost, and what it does by what the table's file is found to be.
-use Rattle.std.specs.Prelude.{◌≡◌, ◌⊎◌, ◌≤◌, ◌+◌, ℕ, List, [], ◌++◌, length, take, IfOk, Bool, true, false, IsTrue, Option, Some, None, Result, Ok, Err, ⊤}
+use Rattle.std.specs.Prelude.{◌≡◌, ◌⊎◌, ◌≤◌, ◌+◌, ℕ, List, [], ◌++◌, length, take, IfOk, true, false, IsTrue, Option, Some, Ok, Err, ⊤}
 use Rattle.outside.specs.Words.{Rose, Each, DiskState, Elapses, AtEachMoment, IsSettled, LeavesNothingNew, Spares, Files, DepotState, Consults}
 use Rattle.tuple_schema.specs.declared.value.Value.{Value}
-use Rattle.tuple_schema.specs.declared.memory.Stop.{Stop}
 use Rattle.tuple_schema.specs.declared.memory.Stop.TheVariants.{Memory, Fault}
 use Rattle.commit_disk.specs.Table.{Stored, Holds, HoldsUpTo, IsNotMade}
 use Rattle.commit_disk.specs.Crashes.{LosesNothing}
@@ -13,7 +12,6 @@ use Rattle.table_write.specs.Rows.{HoldsRows, HoldsFirst}
 use Rattle.list_algebra.specs.Trees.{Tree}
 use Rattle.flow_types.specs.Flows.{has_fixed_root}
 use Rattle.kind_laws.specs.Runs.{Yield, at_root}
-use Rattle.load_runner.specs.declared.fault.LoadFault.{LoadFault}
 use Rattle.load_runner.specs.declared.fault.LoadFault.TheVariants as fault
 use Rattle.load_runner.specs.declared.report.Report.{Report}
 use Rattle.load_runner.specs.Sources.{contents_in, IsMeaning}

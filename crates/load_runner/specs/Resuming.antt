@@ -1,5 +1,5 @@
 -- What the parts of a load do, once the table was read.
-use Rattle.std.specs.Prelude.{◌≡◌, List, ℕ, [], length, drop, All, IfSome, Option, Result, Ok, Err, ⊤, true}
+use Rattle.std.specs.Prelude.{◌≡◌, List, ℕ, length, drop, All, IfSome, Option, Result, Ok, Err, ⊤, true}
 use Rattle.outside.specs.Words.{Files}
 use Rattle.tuple_schema.specs.declared.value.Value.{Value}
 use Rattle.tuple_schema.specs.declared.memory.Stop.{Stop}

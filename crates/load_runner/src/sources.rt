@@ -132,7 +132,13 @@ fn read_rows<D: Depot>(
     ensures served { (files : Files) → (D.state depot.old).files ≡ Some files
         → (D.state depot.new).served ≤ (D.state depot.old).served + size_of (file_at files source.now.file) }
 {
-    match CsvSource::open(alloc, depot, source.file.as_str(), schema, source.any_header) {
+    match CsvSource::open(
+        alloc,
+        depot,
+        source.file.as_str(),
+        schema,
+        source.any_header,
+    ) {
         Ok(opened) => Ok(opened.tuples(alloc)?),
         Err(Stop::Memory) => Err(Stop::Memory),
         Err(Stop::Fault(fault)) => Err(Stop::Fault(of_csv(id, fault))),

@@ -9,7 +9,8 @@ use std::test::Fail;
 use tuple_schema::Stop;
 use workflow_file::read_flow;
 
-const FLOW: &str = "table={input='big'}\nsource=[{name='nums',file='nums.csv',columns=['a int','b int'],promise='seq'}]\nnode=[{name='big',kind='select',input='nums',where='b >= 20'}]\n";
+const FLOW: &str =
+    "table={input='big'}\nsource=[{name='nums',file='nums.csv',columns=['a int','b int'],promise='seq'}]\nnode=[{name='big',kind='select',input='nums',where='b >= 20'}]\n";
 
 const NUMS: &str = "a,b\n1,10\n2,20\n3,30\n4,40\n";
 
@@ -70,7 +71,10 @@ fn a_load_goes_on_and_ends(rt: HostRuntime) -> Result<(), Fail> {
     assert_eq!(rt; first.0.as_str(), "Fault(Disk)");
     let mut disk = disk.crash()?;
     let second = load_over(rt.alloc(), Some(NUMS), &mut disk)?;
-    assert_eq!(rt; second.0.as_str(), "before 2 added 1, edge 1 passed 1 dropped 2");
+    assert_eq!(rt;
+        second.0.as_str(),
+        "before 2 added 1, edge 1 passed 1 dropped 2"
+    );
     assert_eq!(rt; second.1, NUMS.len() as u64);
     let third = load_over(rt.alloc(), None, &mut disk)?;
     assert_eq!(rt; third.0.as_str(), "before 3 added 0");

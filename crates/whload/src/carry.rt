@@ -7,11 +7,11 @@ ghost use Rattle.whload.specs.Promises.{Begins, LoadsAndTells, devices};
 ghost use Rattle.whload.specs.Stops.{IsReason};
 ghost use Rattle.whload.specs.Texts.{name_of};
 
+use crate::Reason;
 use crate::find::{Found, find};
 use crate::flow::short_text;
 use crate::texts::report_text;
 use crate::words::Command;
-use crate::Reason;
 use flow_types::{Flow, Node, NodeId};
 use load_runner::LoadFault;
 use outside::{Depot, Disk, Sink, put_all};

@@ -166,14 +166,20 @@ fn a_changed_flow_is_refused(rt: HostRuntime) -> Result<(), Fail> {
 
 // A source's file, and what is told of it.
 const FAULTY: [(Option<&str>, &str); 9] = [
-    (Some("a,b\n1,10\n2,x\n3,30\n"), " row 2 column 2: not a number"),
+    (
+        Some("a,b\n1,10\n2,x\n3,30\n"),
+        " row 2 column 2: not a number",
+    ),
     (Some("a,b\n1,10\nx,y\n3\n"), " row 2 column 1: not a number"),
     (Some("a,b\n1,\n"), " row 1 column 2: empty field"),
     (
         Some("a,b\n1,9223372036854775808\n"),
         " row 1 column 2: number out of range",
     ),
-    (Some("a,b\n1,10\n2\n"), ": row 2 has another number of fields"),
+    (
+        Some("a,b\n1,10\n2\n"),
+        ": row 2 has another number of fields",
+    ),
     (Some("a,c\n1,10\n"), ": header differs at column 2"),
     (Some("a,b,c\n1,10\n"), ": header differs at column 3"),
     (Some(""), ": header differs at column 1"),

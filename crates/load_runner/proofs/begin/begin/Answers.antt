@@ -1,6 +1,6 @@
-use Rattle.std.proofs.Common.{◌≡◌, ◌∙◌, List, ℕ, sym, subst}
+use Rattle.std.proofs.Common.{◌∙◌, List, ℕ, sym, subst}
 use Rattle.outside.specs.Moments.{spares_on}
-use Rattle.commit_disk.specs.Attach.{TellsOf, FindTells}
+use Rattle.commit_disk.specs.Attach.{TellsOf}
 use Rattle.commit_disk.specs.declared.attaching.Attached.TheVariants as Attached
 use Rattle.load_runner.specs.Starts.{Starts}
 use Rattle.load_runner.proofs.begin.begin.Goals as goal

@@ -1,5 +1,4 @@
-use Rattle.std.proofs.Common.{◌≡◌, ◌+◌, ◌∙◌, length, sym}
-use Rattle.load_runner.specs.Found.{HasWrongRow}
+use Rattle.std.proofs.Common.{◌≡◌, ◌∙◌, sym}
 use Rattle.tuple_schema.specs.declared.memory.Stop.TheVariants as stop
 use Rattle.load_runner.specs.declared.fault.LoadFault.TheVariants as fault
 use Rattle.load_runner.proofs.Readings.{all_read, wrong_read, stopped_at}

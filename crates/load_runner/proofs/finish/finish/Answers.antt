@@ -6,7 +6,7 @@ use Rattle.table_write.specs.Adds.{IsFullBehind}
 use Rattle.table_write.specs.Cut.{cut}
 use Rattle.load_runner.specs.Safe.{IsGrown}
 use Rattle.load_runner.specs.Starts.{IsAt, gate_of}
-use Rattle.outside.specs.Moments.{each_on, at_end}
+use Rattle.outside.specs.Moments.{each_on}
 use Rattle.commit_disk.specs.Growth.{grows_on}
 use Rattle.load_runner.proofs.Begun.{made_grows}
 use Rattle.load_runner.proofs.finish.finish.Goals as goal

@@ -1,6 +1,4 @@
-use Rattle.std.proofs.Common.{◌≡◌, ◌∙◌, IsTrue, Option, Some, refl, sym, ap, subst, List}
-use Rattle.std.proofs.lemmas.Option.{same_Some}
-use Rattle.list_algebra.specs.Bags.{Tuple}
+use Rattle.std.proofs.Common.{◌≡◌, ◌∙◌, refl, sym, subst}
 use Rattle.flow_types.specs.Flows.{has_fixed_root}
 use Rattle.kind_laws.specs.Wholes.{by_number}
 use Rattle.kind_laws.specs.Promises.{IsListing}

@@ -1,6 +1,5 @@
-use Rattle.std.proofs.Common.{◌≡◌, ◌-◌, ◌∙◌, ap, inr, List, ℕ, None, length, drop, sym, All, Err}
+use Rattle.std.proofs.Common.{◌≡◌, ◌∙◌, ap, inr, drop, All, Err}
 use Rattle.std.proofs.lemmas.List.Elements.{All-drop}
-use Rattle.tuple_schema.specs.declared.value.Value.{Value}
 use Rattle.tuple_schema.specs.Schemas.{Fits}
 use Rattle.tuple_schema.specs.declared.memory.Stop.TheVariants as stop
 use Rattle.load_runner.specs.declared.fault.LoadFault.TheVariants as fault

@@ -1,14 +1,11 @@
-use Rattle.std.proofs.Common.{◌≡◌, ◌∙◌, List, ℕ, Bool, true, Err, IsTrue, length, ap, sym, subst, refl}
+use Rattle.std.proofs.Common.{◌≡◌, ◌∙◌, List, ℕ, Bool, true, Err, IsTrue, ap, sym, subst, refl}
 use Rattle.std.proofs.lemmas.Result.{IfOk-weaker, on_ok_weaker}
 use Rattle.outside.specs.Words.{Spares}
 use Rattle.outside.specs.Moments.{time_on}
-use Rattle.tuple_schema.specs.declared.value.Value.{Value}
 use Rattle.tuple_schema.specs.declared.schema.Column.{Column}
-use Rattle.commit_disk.specs.declared.attaching.Attached.{Attached}
 use Rattle.table_write.specs.Rows.{HoldsRows}
 use Rattle.load_runner.specs.Found.{State, IsFound, wrong, other}
 use Rattle.load_runner.specs.Jobs.{Job}
-use Rattle.load_runner.specs.Loads.{Loads}
 use Rattle.load_runner.specs.Reports.{ended_report}
 use Rattle.load_runner.specs.Sources.{columns_of_last, root_columns}
 use Rattle.load_runner.specs.Starts.{is_ended}

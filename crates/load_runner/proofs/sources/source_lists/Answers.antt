@@ -1,20 +1,13 @@
-use Rattle.std.proofs.Common.{◌≡◌, ◌<◌, ◌≤◌, ◌+◌, ◌==◌, ◌∙◌, ℕ, List, [], ◌∷◌, ◌++◌, length, map, get_or, All, Some, Ok, Err, option_copied, inl, inr, sym, ap, subst, length-append, arith}
+use Rattle.std.proofs.Common.{◌≡◌, ◌<◌, ◌≤◌, ◌+◌, ◌∙◌, ℕ, List, [], ◌∷◌, length, map, Some, Ok, Err, option_copied, inl, inr, sym, ap, length-append, arith}
 use Rattle.std.specs.List.{range_with_len, sum_by}
 use Rattle.std.proofs.lemmas.List.FromFn.{sum_by-map-range_with_len_more, take-map-range_with_len}
 use Rattle.std.proofs.lemmas.List.Sums.{sum_by-take-le}
 use Rattle.std.proofs.Math.Seq.{get_or-append_seam}
 use Rattle.std.proofs.lemmas.Bool.{cases_lt}
 use Rattle.std.proofs.lemmas.List.{get_or_append_left}
-use Rattle.std.proofs.lemmas.List.Elements.{All-weaker}
-use Rattle.tuple_schema.specs.declared.schema.Column.{Column}
-use Rattle.tuple_schema.specs.declared.schema.ColumnKind.TheVariants as column_kind
-use Rattle.list_algebra.specs.Bags.{Tuple}
 use Rattle.outside.specs.Words.{Files}
 use Rattle.flow_types.specs.declared.node.Node.{Node}
-use Rattle.flow_types.specs.Columns.{IsInt}
-use Rattle.flow_types.specs.Flows.{number_of}
-use Rattle.kind_laws.specs.Laws.{OwnFit}
-use Rattle.load_runner.specs.Sources.{all_of, content_of, numbered}
+use Rattle.load_runner.specs.Sources.{content_of, numbered}
 use Rattle.tuple_schema.specs.declared.memory.Stop.TheVariants as stop
 use Rattle.load_runner.specs.declared.fault.LoadFault.TheVariants as fault
 use Rattle.load_runner.specs.Asked.{asked_of, asked_bytes}

@@ -2,7 +2,6 @@ use Rattle.std.proofs.Common.{◌≡◌, ◌<◌, ◌≤◌, ◌+◌, ℕ, lengt
 use Rattle.std.specs.List.{range_with_len, sum_by}
 use Rattle.outside.specs.Words.{Files, Consults}
 use Rattle.flow_types.specs.declared.node.Node.{Node}
-use Rattle.flow_types.specs.Flows.{number_of}
 use Rattle.kind_laws.specs.Laws.{OwnFit}
 use Rattle.load_runner.specs.Sources.{all_of, content_of, numbered}
 use Rattle.load_runner.specs.Asked.{asked_of}
