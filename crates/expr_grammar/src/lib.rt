@@ -23,6 +23,3 @@ pub use expr::{Expr, Operator};
 pub use fault::{ExprFault, ExprWhat};
 pub use laws::expression_laws;
 pub use parser::{MAX_EXPR_BYTES, parse};
-
-#[cfg(test)]
-mod tests;

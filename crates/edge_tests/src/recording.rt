@@ -2,8 +2,6 @@
 //
 // A call is a line: its name, its path, and its options or numbers. It can be set how many bytes a read
 // or a write takes at most, and which call fails.
-use crate::history::write_over;
-use crate::memory_depot::copy_from;
 use std::alloc::{Allocator, Global};
 use std::cell::{RefCell, RefMut};
 use std::fmt::Display;
@@ -293,7 +291,10 @@ impl Read for RecordedFile {
             return Err(io::Error::from(ErrorKind::PermissionDenied));
         }
         let room = buf.len().min(kept.most);
-        let count = copy_from(kept.bytes(self.place)?, self.at, &mut buf[..room]);
+        let bytes = kept.bytes(self.place)?.as_slice();
+        let rest = bytes.get(self.at as usize..).unwrap_or(&[]);
+        let count = rest.len().min(room);
+        buf[..count].copy_from_slice(&rest[..count]);
         self.at = self.at.saturating_add(count as u64);
         Ok(count)
     }
@@ -318,7 +319,8 @@ impl Write for RecordedFile {
         if at > bytes.len() {
             bytes.resize(at, 0)?;
         }
-        write_over(bytes, at, piece)?;
+        bytes.resize(bytes.len().max(at + piece.len()), 0)?;
+        bytes[at..at + piece.len()].copy_from_slice(piece);
         self.at = (at as u64).saturating_add(piece.len() as u64);
         Ok(piece.len())
     }

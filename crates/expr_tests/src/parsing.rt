@@ -1,10 +1,10 @@
-use crate::{Expr, ExprFault, ExprWhat, Operator, parse};
+// What texts are: their trees, or what is wrong and where.
+use crate::parsing_table;
+use expr_grammar::{Expr, ExprFault, ExprWhat, Operator, parse};
 use std::alloc::AllocError;
 use std::fmt::Write;
 use std::test::Fail;
 use tuple_schema::Stop;
-
-mod table;
 
 fn operator_text(operator: Operator) -> &'static str {
     match operator {
@@ -111,7 +111,7 @@ fn answer(rt: &HostRuntime, text: &str) -> Result<String, AllocError> {
 #[test]
 fn each_text_has_its_tree_or_its_fault(rt: HostRuntime) -> Result<(), Fail> {
     let mut count = 0usize;
-    for line in table::TEXTS.lines() {
+    for line in parsing_table::TEXTS.lines() {
         let mut parts = line.split('`');
         let _before = parts.next();
         let text = parts.next().ok_or("no text")?;
