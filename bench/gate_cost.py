@@ -5,10 +5,11 @@
     python3 bench/gate_cost.py --of PID   measures the `rt ci` that runs already, from now to its end
 
 Every second it reads the processor time of each prover below that process, from /proc. So it needs Linux, and a prover
-that lives for less than a second may be missed.
+that lives for less than a second may be missed. A run that is cut off prints what it has seen.
 """
 
 import os
+import signal
 import subprocess
 import sys
 import time
@@ -37,8 +38,8 @@ def part_of(words, folder):
     crate = words[words.index("--crate-name") + 1]
     if os.path.basename(folder).startswith("rt-edit-"):
         return crate, "edits"
-    if crate.endswith("_tests") or "--test" in words:
-        return crate.removesuffix("_tests"), "tests"
+    if "--test" in words:
+        return crate, "tests"
     return crate, "proofs"
 
 
@@ -80,20 +81,26 @@ def print_costs(seconds):
         print(f"| {crate} | " + " | ".join(cells) + " |")
 
 
-def main():
-    seconds = {}
+def watch(seconds):
+    """Samples a gate to its end, and gives its exit status."""
     if sys.argv[1:2] == ["--of"]:
-        top, status = int(sys.argv[2]), 0
-        while sample(top, seconds):
+        while sample(int(sys.argv[2]), seconds):
             time.sleep(1)
-    else:
-        gate = subprocess.Popen(["rt", "ci", "--anew"])
-        while gate.poll() is None:
-            sample(gate.pid, seconds)
-            time.sleep(1)
-        status = gate.returncode
-    print_costs(seconds)
-    sys.exit(status)
+        return 0
+    gate = subprocess.Popen(["rt", "ci", "--anew"])
+    while gate.poll() is None:
+        sample(gate.pid, seconds)
+        time.sleep(1)
+    return gate.returncode
+
+
+def main():
+    signal.signal(signal.SIGTERM, lambda *_: sys.exit(1))
+    seconds = {}
+    try:
+        sys.exit(watch(seconds))
+    finally:
+        print_costs(seconds)
 
 
 if __name__ == "__main__":
