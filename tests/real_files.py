@@ -3,6 +3,7 @@
 
 It builds nothing. The expected bytes are packed here, from docs/FORMATS.md and not from the program.
 """
+import csv
 import os
 import shutil
 import struct
@@ -22,8 +23,18 @@ passed = 0
 failed = []
 
 
+def field_bytes(value):
+    """None is Null, a number the units of an int or a decimal."""
+    if value is None:
+        return b"\x00"
+    if isinstance(value, str):
+        text = value.encode()
+        return b"\x01" + struct.pack(">H", len(text)) + text
+    return b"\x01" + struct.pack(">q", value)
+
+
 def row_bytes(row):
-    return b"".join(b"\x01" + struct.pack(">q", number) for number in row)
+    return b"".join(field_bytes(value) for value in row)
 
 
 def table_bytes(text, rows, batch=1000):
@@ -91,26 +102,41 @@ def nums(text):
     return {"flow.toml": FLOW, "nums.csv": text}
 
 
-def example_files(example):
+def example_files(example, source):
+    """The files of an example, and the records of its source behind the header, as Python's csv reads them."""
     path = os.path.join(TOP, "examples", example)
     files = {}
-    for name in ("flow.toml", "readings.csv"):
+    for name in ("flow.toml", source):
         with open(os.path.join(path, name), "rb") as file:
             files[name] = file.read()
-    lines = files["readings.csv"].decode().splitlines()[1:]
-    return files, [tuple(int(field) for field in line.split(",")) for line in lines]
+    return files, list(csv.reader(files[source].decode().splitlines(keepends=True)))[1:]
+
+
+def readings(example):
+    files, records = example_files(example, "readings.csv")
+    return files, [tuple(int(field) for field in record) for record in records]
+
+
+def cents(field):
+    """The units of a field with two digits behind its point, and Null of an empty one."""
+    return int(field.replace(".", "")) if field else None
 
 
 def the_examples():
-    files, rows = example_files("meters")
+    files, rows = readings("meters")
     loaded = expect_load("the example", files, rows)
     before = table_of(loaded)
     expect("a second load", run("load", loaded), (0, b"complete\nbefore %d\nadded 0\n" % len(rows), b""))
     expect("a second load changes nothing", table_of(loaded), before)
 
-    files, rows = example_files("high_use")
+    files, rows = readings("high_use")
     high = [(used, meter, hour) for meter, day, hour, used in rows if used >= 500]
     expect_load("a selection and a projection", files, high)
+
+    files, records = example_files("orders", "orders.csv")
+    orders = [(int(no), buyer, cents(amount), cents(paid), note or None)
+              for no, buyer, _, amount, paid, note in records]
+    expect_load("texts, decimals and empty fields", files, orders)
 
 
 def tables():
