@@ -88,8 +88,8 @@ fn a_row_with_an_unknown_tag_is_the_wrong_place(rt: HostRuntime) -> Result<(), F
 #[test]
 fn a_wrong_count_is_found_where_the_rows_end(rt: HostRuntime) -> Result<(), Fail> {
     let alloc = rt.alloc();
-    // The counts end at 22 and 50. One too many is no row at the end, and one too few leaves bytes.
-    for (count, rows, at) in [(22, 3, 45), (22, 1, 36), (50, 2, 64), (50, 0, 55)] {
+    // The counts end at 22 and 50. One too many is no row at the end, and one too few leaves bytes; no block has none.
+    for (count, rows, at) in [(22, 3, 45), (22, 1, 36), (50, 2, 64), (50, 0, 45)] {
         assert_eq!(rt;
             verified_with(alloc, count, rows)?,
             Err(Stop::Fault(TableFault::NotATable { at }))
