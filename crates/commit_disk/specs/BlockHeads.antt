@@ -1,6 +1,7 @@
 -- What the head of a block tells.
 use Rattle.std.specs.Prelude.{◌≡◌, ◌≤◌, ◌<◌, ◌+◌, ℕ, List, ◌∷◌, ◌++◌, length, true, Option, Some, None, Result, Ok, Err, ⊤}
 use Rattle.std.specs.Int.{w32, to_be_bytes}
+use Rattle.outside.specs.Counts.{Rose}
 use Rattle.commit_disk.specs.declared.attaching.TableFault.{TableFault}
 use Rattle.commit_disk.specs.declared.attaching.TableFault.TheVariants.{Disk, NotATable, WorkflowDiffers}
 use Rattle.commit_disk.specs.declared.block_head.BlockHead.{BlockHead}
@@ -49,6 +50,12 @@ BlockHeadTells (Ok head) block = IsHeadOf head block
 BlockHeadTells (Err Disk) block = ⊤
 BlockHeadTells (Err (NotATable place)) block = ⊥
 BlockHeadTells (Err WorkflowDiffers) block = ⊥
+
+-- a fault of reading a head: the disk failed, and its count of faults rose; or no block has its gate at this place
+abbrev pub IsHeadFault : ℕ → ℕ → ℕ → TableFault → Type 0
+IsHeadFault gate before now Disk = Rose before now
+IsHeadFault gate before now (NotATable place) = place ≡ gate
+IsHeadFault gate before now WorkflowDiffers = ⊥
 
 -- the block has this head, and these bytes are written of it behind its gate, up to the next gate
 pub record IsWritten (block : TableBlock) (head : BlockHead) (bytes : List ℕ) : Type 0 where

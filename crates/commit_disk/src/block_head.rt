@@ -1,10 +1,9 @@
 // The head of a block, which is read here alone.
-ghost use Rattle.std.specs.Prelude.{◌≡◌, ◌≤◌, ◌<◌, ◌+◌, List, length, slice_index, take, drop, IsTrue, IfOk};
+ghost use Rattle.std.specs.Prelude.{◌≡◌, ◌≤◌, ◌<◌, ◌+◌, List, length, slice_index, take, drop, IsTrue, IfOk, IfErr};
 ghost use Rattle.std.specs.Int.{w32, to_be_bytes, from_be_bytes};
 ghost use Rattle.outside.specs.Words.{HasCause, OnlyReads};
 ghost use Rattle.commit_disk.specs.Table.{TableBlock, content_of};
-ghost use Rattle.commit_disk.specs.BlockHeads.{count_in, len_in, IsBlockAt, BlockHeadTells, BlockTells};
-ghost use Rattle.commit_disk.specs.Frames.{HasDiskCause};
+ghost use Rattle.commit_disk.specs.BlockHeads.{count_in, len_in, IsBlockAt, BlockHeadTells, IsHeadFault, BlockTells};
 
 use crate::gate::{CLOSED, OPEN};
 use crate::{FULL_BYTES, Journal, MAX_ROW_BYTES, MAX_ROWS, TableFault};
@@ -59,7 +58,7 @@ impl Journal {
         ensures within { IfOk result (λ head. gate + 10 + len_in head ≤ self.now.gate) }
         ensures room { self.now.gate < MAX_SIZE }
         ensures read { OnlyReads (K.state disk.old) (K.state disk.new) }
-        ensures cause { HasDiskCause (K.state disk.old).faults (K.state disk.new).faults result }
+        ensures cause { IfErr result (IsHeadFault gate (K.state disk.old).faults (K.state disk.new).faults) }
     {
         let end = self.gate() + 1;
         let head = read_block_head(disk, gate, end)?;

@@ -13,10 +13,10 @@ use Rattle.commit_disk.specs.declared.block_head.BlockHead.TheVariants.{Rows, En
 use Rattle.commit_disk.specs.Table.{Stored, TableBlock, rows_block, end_block, HoldsBlocksUpTo, front, opened, head, block_bytes, content_of, table, row_blocks, has_end}
 use Rattle.commit_disk.specs.Attach.{TellsOf}
 use Rattle.commit_disk.specs.Journal.{JournalState}
-use Rattle.commit_disk.specs.BlockHeads.{count_in, len_in, IsHeadOf, IsBlockAt, BlockHeadTells}
+use Rattle.commit_disk.specs.BlockHeads.{count_in, len_in, IsHeadOf, IsBlockAt, BlockHeadTells, IsHeadFault}
 use Rattle.commit_disk.specs.RowTables.{as_table}
 use Rattle.table_read.specs.Rows.{rows_at, block_rows, next_gate, table_rows}
-use Rattle.table_read.specs.Places.{wrong_place, Verifies}
+use Rattle.table_read.specs.Places.{wrong_place, Verifies, IsCaused}
 use Rattle.table_read.proofs.Readings.{with_empty, table_goes_on, table_stops, no_blocks}
 
 -- a front in two parts
@@ -98,6 +98,11 @@ pub head_stops : (f : TableFault) (block : TableBlock) (wrong : Option ℕ) → 
 head_stops fault.Disk block wrong tells = tt
 head_stops (fault.NotATable at) block wrong tells = absurd tells
 head_stops fault.WorkflowDiffers block wrong tells = absurd tells
+
+pub head_caused : (gate before now : ℕ) (f : TableFault) → IsHeadFault gate before now f → IsCaused before now f
+head_caused gate before now fault.Disk is = is
+head_caused gate before now (fault.NotATable place) is = tt
+head_caused gate before now fault.WorkflowDiffers is = absurd is
 
 -- ---- from gate to gate
 

@@ -3,7 +3,7 @@ use Rattle.std.proofs.lemmas.List.{take_at}
 use Rattle.std.proofs.lemmas.Result.{err_from_is_err_and}
 use Rattle.commit_disk.specs.Table.{content_of}
 use Rattle.table_read.specs.Places.{Verifies}
-use Rattle.table_read.proofs.Standing.{rows_same, head_stops, count_of, len_of}
+use Rattle.table_read.proofs.Standing.{rows_same, head_stops, head_caused, count_of, len_of}
 use Rattle.outside.specs.Moments.{read_on}
 use Rattle.table_read.proofs.blocks.verify_block.Goals as goal
 
@@ -11,6 +11,11 @@ pub returns-in_err-head-clause-rows : goal.returns-in_err-head-clause-rows
 returns-in_err-head-clause-rows g c = λ honest block at.
     let p = err_from_is_err_and c.from_residual.result c.from_residual.ensures.1 in
     rw (p.1, p.2) (head_stops c.in_err-head.field-0.0 block _ (c.in_err-head.ensures.head honest block at))
+
+pub returns-in_err-head-clause-cause : goal.returns-in_err-head-clause-cause
+returns-in_err-head-clause-cause g c =
+    let p = err_from_is_err_and c.from_residual.result c.from_residual.ensures.1 in
+    rw (p.1, p.2) (head_caused c.args.gate _ _ c.in_err-head.field-0.0 c.in_err-head.ensures.cause)
 
 pub returns-in_err-verify_rows-clause-rows : goal.returns-in_err-verify_rows-clause-rows
 returns-in_err-verify_rows-clause-rows g c = λ honest block at.

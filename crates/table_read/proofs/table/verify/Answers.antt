@@ -19,7 +19,7 @@ pub returns-in_err-gate-clause-rows : goal.returns-in_err-gate-clause-rows
 returns-in_err-gate-clause-rows g c = λ honest text table.
     let journal = c.args.journal.now in
     let read = c.loop-gate.invariant.read in
-    let last : c.gate-in-loop-gate.result ≡ journal.gate = c.gate-in-loop-gate.ensures.gate in
+    let last : c.gate.result ≡ journal.gate = c.gate.ensures.gate in
     let same = read.keeps.file honest in
     let p = err_from_is_err_and c.from_residual.result c.from_residual.ensures.1 in
     rw (p.1, p.2) (stops_here c.args.schema.now (g.K.Disk.state c.args.disk.now).file text table.blocks journal.first c.loop-gate.gate journal.gate table.holds
@@ -29,7 +29,7 @@ returns-in_err-gate-clause-rows g c = λ honest text table.
 pub loop-gate-preserved : goal.loop-gate-preserved
 loop-gate-preserved g c =
     let journal = c.args.journal.now in
-    let last : c.gate-in-loop-gate.result ≡ journal.gate = c.gate-in-loop-gate.ensures.gate in
+    let last : c.gate.result ≡ journal.gate = c.gate.ensures.gate in
     record {
       read = read_on _ _ _ c.loop-gate.invariant.read c.verify_block.ensures.only_read;
       within = c.in_ok-gate.ensures.within;
