@@ -1,6 +1,5 @@
 pub mod Readings
 pub mod Standings
-pub mod Numbers
 pub mod Steps
 pub mod Tables
 pub mod Begun

@@ -1,11 +1,10 @@
 // The end of a load, which makes the table where it isn't made, and commits rows to it.
-ghost use Rattle.std.specs.Prelude.{◌≡◌, ◌≢◌, ◌≤◌, ◌<◌, ◌*◌, ℕ, List, [], IsTrue, Err, IfOk, OnOk, IsErrOf, length, take, All, true, false};
+ghost use Rattle.std.specs.Prelude.{◌≡◌, ◌≢◌, ◌≤◌, ◌<◌, ℕ, List, [], IsTrue, Err, IfOk, OnOk, IsErrOf, length, take, All, true, false};
 ghost use Rattle.outside.specs.Words.{Rose, Each, Elapses, IsSettled, LeftBetween};
 ghost use Rattle.tuple_schema.specs.Schemas.{Fits};
 ghost use Rattle.tuple_schema.specs.Stops.{IfFault};
 ghost use Rattle.tuple_schema.specs.declared.memory.Stop.TheVariants as stop;
 ghost use Rattle.row_codec.specs.Decoding.{IsRowOf};
-ghost use Rattle.row_codec.specs.Rows.{AreNumbers};
 ghost use Rattle.commit_disk.specs.Table.{Stored, Holds, HoldsUpTo, IsNotMade};
 ghost use Rattle.commit_disk.specs.Attach.{IsWithin, IsSound};
 ghost use Rattle.commit_disk.specs.Journal.{new_journal};
@@ -42,8 +41,6 @@ pub fn finish<K: Disk>(
     requires start { IsTrue (K.state disk.old).honest → (olds : List Stored)
         × IsAt found (K.state disk.old).file text.now olds }
     requires fit { All (λ row. Fits schema.now row) rows.now }
-    requires numbers { AreNumbers schema.now }
-    requires room { 9 * length schema.now ≤ writer.old }
     requires some { 1 ≤ batch }
     requires few { batch ≤ MAX_ROWS }
 
@@ -103,8 +100,6 @@ fn append<K: Disk>(
     requires unended { journal.ended ≡ false }
     requires within { journal.gate < (K.state disk.old).size }
     requires fit { All (λ row. Fits schema.now row) rows.now }
-    requires numbers { AreNumbers schema.now }
-    requires room { 9 * length schema.now ≤ writer.old }
     requires some { 1 ≤ batch }
     requires few { batch ≤ MAX_ROWS }
 

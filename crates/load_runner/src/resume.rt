@@ -96,7 +96,7 @@ pub fn resume<D: Depot, K: Disk>(
     ensures elapses { Elapses (K.state disk.old) (K.state disk.new) }
 {
     let root = flow.root_node();
-    let mut writer = Writer::new(alloc, &root.schema)?;
+    let mut writer = Writer::new(alloc)?;
     let rows = whole_rows(alloc, flow, depot)?;
     let before = count_of(&found);
     // The report comes first, so that no memory is wanted once the table is ended.

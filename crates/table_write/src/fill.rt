@@ -1,15 +1,15 @@
 // Filling a block with rows.
-ghost use Rattle.std.specs.Prelude.{◌≡◌, ◌≤◌, ◌<◌, ◌*◌, ◌∷◌, ℕ, List, length, take, drop, All};
+ghost use Rattle.std.specs.Prelude.{◌≡◌, ◌≤◌, ◌<◌, ◌∷◌, ℕ, List, length, take, drop, All};
 ghost use Rattle.std.specs.Vec.{vec_capacity};
 ghost use Rattle.tuple_schema.specs.declared.value.Value.{Value};
 ghost use Rattle.tuple_schema.specs.Schemas.{Fits};
 ghost use Rattle.row_codec.specs.Decoding.{IsRowOf};
-ghost use Rattle.row_codec.specs.Rows.{row_bytes, AreNumbers};
+ghost use Rattle.row_codec.specs.Rows.{row_bytes};
 ghost use Rattle.commit_disk.specs.Buffer.{with_row};
 ghost use Rattle.table_write.specs.Cut.{is_full, cut};
 ghost use Rattle.table_write.specs.Rows.{stored_of};
 
-use commit_disk::{Block, FULL_BYTES, MAX_ROWS};
+use commit_disk::{Block, FULL_BYTES, MAX_ROW_BYTES, MAX_ROWS};
 use row_codec::encode_row;
 use tuple_schema::{Schema, Tuple};
 
@@ -23,8 +23,7 @@ pub fn fill(
 ) -> usize
     requires rows { 1 ≤ length rows.now }
     requires fit { All (λ row. Fits schema.now row) rows.now }
-    requires numbers { AreNumbers schema.now }
-    requires room { 9 * length schema.now ≤ vec_capacity row.old }
+    requires room { MAX_ROW_BYTES ≤ vec_capacity row.old }
     requires some { 1 ≤ batch }
     requires few { batch ≤ MAX_ROWS }
     ensures some { 1 ≤ result }
@@ -55,8 +54,7 @@ fn add_row(block: &mut Block, buffer: &mut Vec<u8>, schema: &Schema, row: &Tuple
     requires few { block.old.count < MAX_ROWS }
     requires short { length block.old.bytes < FULL_BYTES }
     requires fit { Fits schema.now row.now }
-    requires numbers { AreNumbers schema.now }
-    requires room { 9 * length schema.now ≤ vec_capacity buffer.old }
+    requires room { MAX_ROW_BYTES ≤ vec_capacity buffer.old }
     ensures block { block.new ≡ with_row block.old (row_bytes row.now) }
     ensures of_columns { IsRowOf schema.now row.now }
     ensures room { vec_capacity buffer.old ≤ vec_capacity buffer.new }

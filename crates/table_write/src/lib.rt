@@ -7,7 +7,7 @@
 //! Promised of an honest disk on which nothing is pending: at every moment of `Writer::append` a crash
 //! leaves the old blocks and the first of the new ones; Ok comes where all of them and the end block
 //! stand, and Full exactly where they would end past the longest file.
-//! Not promised: anything of a disk that isn't honest, or of schemas with texts.
+//! Not promised: anything of a disk that isn't honest.
 #![tactic(auto)]
 
 mod fill;

@@ -1,7 +1,6 @@
 // Worked tables. Each has the flow text `x`, so that its first gate stands at 17.
-ghost use Rattle.std.specs.Prelude.{◌≡◌, ◌≤◌, length, All, IfOk};
+ghost use Rattle.std.specs.Prelude.{◌≡◌, length, All, IfOk};
 ghost use Rattle.tuple_schema.specs.Schemas.{Fits};
-ghost use Rattle.row_codec.specs.Rows.{AreNumbers};
 ghost use Rattle.outside.specs.MemoryDisk.{file_of};
 
 use crate::{WriteFault, Writer};
@@ -12,9 +11,7 @@ use std::test::Fail;
 use tuple_schema::{Column, ColumnKind, Schema, Text, Tuple, Tuples, Value};
 
 // One int that may not be Null: its rows have nine bytes.
-fn one_int(alloc: Global) -> Result<Schema, Fail>
-    ensures { IfOk result (λ schema. AreNumbers schema) }
-{
+fn one_int(alloc: Global) -> Result<Schema, Fail> {
     let column = Column {
         name: Text::of(alloc, "a")?,
         kind: ColumnKind::Int,
@@ -50,7 +47,7 @@ fn written(
 {
     let schema = one_int(alloc)?;
     let rows = rows_of(alloc, &schema, numbers)?;
-    let mut writer = Writer::new(alloc, &schema)?;
+    let mut writer = Writer::new(alloc)?;
     let mut journal = make(alloc, disk, b"x")?;
     disk.stop_at_write(stop, torn);
     Ok(writer.append(&mut journal, disk, &schema, rows.rows(), 2))

@@ -1,9 +1,8 @@
 // Writing rows to a table.
-ghost use Rattle.std.specs.Prelude.{◌≡◌, ◌≤◌, ◌<◌, ◌+◌, ◌*◌, ◌^◌, ℕ, List, length, IsTrue, IsErrOf, IfOk, OnOk, All, true, false};
+ghost use Rattle.std.specs.Prelude.{◌≡◌, ◌≤◌, ◌<◌, ◌+◌, ◌^◌, ℕ, List, length, IsTrue, IsErrOf, OnOk, All, true, false};
 ghost use Rattle.outside.specs.Words.{Rose, Elapses, IsSettled, LeftBetween};
 ghost use Rattle.tuple_schema.specs.Schemas.{Fits};
 ghost use Rattle.row_codec.specs.Decoding.{IsRowOf};
-ghost use Rattle.row_codec.specs.Rows.{AreNumbers};
 ghost use Rattle.commit_disk.specs.Table.{Stored, HoldsUpTo, rows_block, end_block};
 ghost use Rattle.commit_disk.specs.Journal.{after, Commits};
 ghost use Rattle.commit_disk.specs.Crashes.{LeavesWhole, GrowsBy};
@@ -12,7 +11,7 @@ ghost use Rattle.table_write.specs.Cut.{cut};
 ghost use Rattle.table_write.specs.Adds.{with_blocks, LeavesFronts, StopsBetween, behind, HasRoom, AllHaveRoom, HasAdded, IsFilled};
 
 use crate::fill::fill;
-use commit_disk::{Block, Journal, MAX_ROWS, fits};
+use commit_disk::{Block, Journal, MAX_ROW_BYTES, MAX_ROWS, fits};
 use outside::{Disk, Failed, MAX_SIZE};
 use std::alloc::Global;
 use std::marker::Model;
@@ -38,8 +37,8 @@ impl From<Failed> for WriteFault {
     }
 }
 
-/// The memory for writing: a block that waits for its commit, and the bytes of a row. A contract
-/// sees it as how many bytes of a row it has room for.
+/// The memory for writing: a block that waits for its commit, and room for the bytes of any row. A
+/// contract sees nothing of it.
 #[derive(Drop)]
 pub struct Writer {
     block: Block,
@@ -47,22 +46,22 @@ pub struct Writer {
 }
 
 impl Model for Writer {
-    ghost use Rattle.std.specs.Prelude.{ℕ};
+    ghost use Rattle.std.specs.Prelude.{◌≤◌, ⊤};
     ghost use Rattle.std.specs.Vec.{vec_capacity};
 
-    ghost Value = { ℕ };
+    ghost Value = { ⊤ };
 
-    ghost view = { λ w. vec_capacity w.row };
+    ghost view = { λ w. tt };
+
+    ghost invariant = { λ w. 262336 ≤ vec_capacity w.row };
 }
 
 impl Writer {
-    /// A writer with room for the rows of this schema, in which a number has nine bytes.
-    pub fn new(alloc: Global, schema: &Schema) -> Result<Writer, Memory>
-        ensures { IfOk result (λ writer. 9 * length schema.now ≤ writer) }
-    {
+    /// A writer for the rows of any schema. It takes all the memory that writing takes.
+    pub fn new(alloc: Global) -> Result<Writer, Memory> {
         Ok(Writer {
             block: Block::new(alloc)?,
-            row: Vec::with_capacity(alloc, 9 * schema.columns().len())?,
+            row: Vec::with_capacity(alloc, MAX_ROW_BYTES as usize)?,
         })
     }
 
@@ -80,8 +79,6 @@ impl Writer {
         requires unended { journal.old.ended ≡ false }
         requires place { journal.old.gate < (K.state disk.old).size }
         requires fit { All (λ row. Fits schema.now row) rows.now }
-        requires numbers { AreNumbers schema.now }
-        requires room { 9 * length schema.now ≤ self.old }
         requires some { 1 ≤ batch }
         requires few { batch ≤ MAX_ROWS }
 
@@ -111,7 +108,6 @@ impl Writer {
 
         ensures unsound { IsErrOf result fault.Disk → journal.new.sound ≡ false }
         ensures cause { IsErrOf result fault.Disk → Rose (K.state disk.old).faults (K.state disk.new).faults }
-        ensures room { self.old ≤ self.new }
     {
         self.append_blocks(journal, disk, schema, rows, batch)?;
         if !fits(journal.gate(), 0) {
@@ -134,8 +130,6 @@ impl Writer {
         requires unended { journal.old.ended ≡ false }
         requires place { journal.old.gate < (K.state disk.old).size }
         requires fit { All (λ row. Fits schema.now row) rows.now }
-        requires numbers { AreNumbers schema.now }
-        requires room { 9 * length schema.now ≤ self.old }
         requires some { 1 ≤ batch }
         requires few { batch ≤ MAX_ROWS }
 
@@ -156,7 +150,6 @@ impl Writer {
 
         ensures unsound { IsErrOf result fault.Disk → journal.new.sound ≡ false }
         ensures cause { IsErrOf result fault.Disk → Rose (K.state disk.old).faults (K.state disk.new).faults }
-        ensures room { self.old ≤ self.new }
     {
         let mut rest = rows;
         while !rest.is_empty() {

@@ -6,17 +6,12 @@ use Rattle.load_runner.specs.declared.fault.LoadFault.TheVariants as fault
 use Rattle.load_runner.specs.Sources.{columns_of_last, root_columns}
 use Rattle.load_runner.specs.Reports.{skip_report}
 use Rattle.load_runner.specs.Starts.{count_of}
-use Rattle.load_runner.proofs.Numbers.{are_numbers}
 use Rattle.load_runner.proofs.resume.resume.Goals as goal
 
 pub finish-requires-clause-fit : goal.finish-requires-clause-fit
 finish-requires-clause-fit g c =
     let fit : All (λ row. Fits c.root_node-root.result.now.schema row) c.in_ok-rows.rows = rw (← c.root_node-root.ensures.last) at c.in_ok-rows.ensures.fit in
     rw (c.behind-missing.ensures, c.rows-2.ensures) (All-drop (λ row. Fits c.root_node-root.result.now.schema row) c.count_of-before.result c.in_ok-rows.rows fit)
-
-pub finish-requires-clause-numbers : goal.finish-requires-clause-numbers
-finish-requires-clause-numbers g c =
-    are_numbers c.root_node-root.result.now.schema c.root_node-root.ensures.ints
 
 pub returns-in-Ok-clause-any_moment : goal.returns-in-Ok-clause-any_moment
 returns-in-Ok-clause-any_moment g c = λ honest settled olds there.

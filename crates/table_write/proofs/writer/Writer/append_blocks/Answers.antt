@@ -16,7 +16,7 @@ pub loop-rest-init : goal.loop-rest-init
 loop-rest-init g c = record {
   fit = c.requires.fit;
   so_far = none_yet c.args.schema.now (cut c.args.batch c.args.rows.now) c.args.journal.now (g.K.Disk.state c.args.disk.now) c.requires.place;
-  room = omega (arith, c.self.view_is);
+  room = omega (arith, c.self.invariant);
 }
 
 pub returns-in_err-commit_block-clause-any_moment : goal.returns-in_err-commit_block-clause-any_moment

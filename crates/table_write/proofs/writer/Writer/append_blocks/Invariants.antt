@@ -9,7 +9,7 @@ abbrev pub invariant-loop-rest : goal.invariant-loop-rest
 invariant-loop-rest g l = record {
   fit : All (λ row. Fits l.schema row) l.rest;
   so_far : SoFar l.schema (cut l.batch l.rows) l.fn.journal (g.K.Disk.state l.fn.disk) (cut l.batch l.rest) l.journal (g.K.Disk.state l.disk);
-  room : l.fn.self ≤ vec_capacity l.self-inside.row;
+  room : 262336 ≤ vec_capacity l.self-inside.row;
 }
 
 abbrev pub decreases-loop-rest : goal.decreases-loop-rest
