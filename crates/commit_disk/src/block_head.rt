@@ -56,6 +56,7 @@ impl Journal {
             → take (length (content_of block).bytes) (drop (gate + 10) (K.state disk.old).file)
             ≡ (content_of block).bytes) }
         ensures within { IfOk result (λ head. gate + 10 + len_in head ≤ self.now.gate) }
+        ensures few { IfOk result (λ head. count_in head ≤ MAX_ROWS) }
         ensures room { self.now.gate < MAX_SIZE }
         ensures read { OnlyReads (K.state disk.old) (K.state disk.new) }
         ensures cause { IfErr result (IsHeadFault gate (K.state disk.old).faults (K.state disk.new).faults) }

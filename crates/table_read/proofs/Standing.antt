@@ -1,8 +1,9 @@
 -- The blocks of a table, from a gate on.
-use Rattle.std.proofs.Common.{Err, ◌≡◌, ◌≤◌, ◌<◌, ◌+◌, ℕ, List, [], ◌∷◌, ◌++◌, length, take, drop, map, Bool, true, false, Option, None, ap, sym, subst, ◌∙◌, refl, arith, append_assoc, length-append}
+use Rattle.std.proofs.Common.{Result, Err, ◌≡◌, ◌≤◌, ◌<◌, ◌+◌, ℕ, List, [], ◌∷◌, ◌++◌, length, take, drop, map, Bool, true, false, Option, None, ap, sym, subst, ◌∙◌, refl, arith, append_assoc, length-append}
 use Rattle.std.specs.List.{flat_map}
 use Rattle.std.proofs.lemmas.List.{append-nil}
 use Rattle.std.proofs.lemmas.List.Concat.{flat_map-append}
+use Rattle.tuple_schema.specs.declared.value.Value.{Value}
 use Rattle.tuple_schema.specs.declared.schema.Column.{Column}
 use Rattle.tuple_schema.specs.declared.memory.Stop.{Stop}
 use Rattle.tuple_schema.specs.declared.memory.Stop.TheVariants as stop
@@ -16,7 +17,9 @@ use Rattle.commit_disk.specs.Journal.{JournalState}
 use Rattle.commit_disk.specs.BlockHeads.{count_in, len_in, IsHeadOf, IsBlockAt, BlockHeadTells, IsHeadFault}
 use Rattle.commit_disk.specs.RowTables.{as_table}
 use Rattle.table_read.specs.Rows.{rows_at, block_rows, next_gate, table_rows}
-use Rattle.table_read.specs.Places.{wrong_place, Verifies, IsCaused}
+use Rattle.table_read.specs.Places.{wrong_place, Verifies, IsCaused, StopsOutside}
+use Rattle.table_read.specs.Calls.{IsRead}
+use Rattle.table_read.specs.Blocks.{TakesRows}
 use Rattle.table_read.proofs.Readings.{with_empty, table_goes_on, table_stops, no_blocks}
 
 -- a front in two parts
@@ -84,20 +87,33 @@ len_of (Rows count len) end_block is = absurd is
 len_of End (rows_block rows) is = absurd is
 len_of End end_block is = refl
 
--- the rows that were read are those of the block
-pub rows_same : (columns : List Column) (count gate : ℕ) (seen file bytes into : List ℕ) (block : TableBlock) → count ≡ (content_of block).count → length into ≡ length (content_of block).bytes → seen ≡ file
-    → take (length (content_of block).bytes) (drop (gate + 10) file) ≡ (content_of block).bytes
-    → into ≡ take (length into) (drop (gate + 10) seen) → bytes ≡ into → wrong_place (rows_at columns count (gate + 10) bytes) ≡ wrong_place (block_rows columns gate (content_of block))
-rows_same columns count gate seen file bytes into block counts long same there reads is =
-    let own : into ≡ (content_of block).bytes = reads ∙ (λ i. take (long i) (drop (gate + 10) (same i))) ∙ there in
-    ap (λ (n : ℕ). wrong_place (rows_at columns n (gate + 10) bytes)) counts
-    ∙ ap (λ (l : List ℕ). wrong_place (rows_at columns (content_of block).count (gate + 10) l)) (is ∙ own)
+-- the reading of what was read is that of the block
+pub reading_same : (columns : List Column) (count gate : ℕ) (bytes : List ℕ) (head : BlockHead) (read : List ℕ) (block : TableBlock) → count ≡ count_in head → bytes ≡ read → IsRead head read (content_of block)
+    → rows_at columns count (gate + 10) bytes ≡ block_rows columns gate (content_of block)
+reading_same columns count gate bytes head read block counts is of_block =
+    (λ i. rows_at columns ((counts ∙ of_block.counts) i) (gate + 10) ((is ∙ of_block.same) i))
+
+pub rows_same : (columns : List Column) (count gate : ℕ) (bytes : List ℕ) (head : BlockHead) (read : List ℕ) (block : TableBlock) → count ≡ count_in head → bytes ≡ read → IsRead head read (content_of block)
+    → wrong_place (rows_at columns count (gate + 10) bytes) ≡ wrong_place (block_rows columns gate (content_of block))
+rows_same columns count gate bytes head read block counts is of_block = ap wrong_place (reading_same columns count gate bytes head read block counts is of_block)
 
 -- of the head of a block that is there, only the disk fails
-pub head_stops : (f : TableFault) (block : TableBlock) (wrong : Option ℕ) → BlockHeadTells (Err f) block → Verifies {X = ℕ} (Err (stop.Fault f)) wrong
-head_stops fault.Disk block wrong tells = tt
-head_stops (fault.NotATable at) block wrong tells = absurd tells
-head_stops fault.WorkflowDiffers block wrong tells = absurd tells
+pub head_stops : (f : TableFault) (block : TableBlock) → BlockHeadTells (Err f) block → StopsOutside (stop.Fault f)
+head_stops fault.Disk block tells = tt
+head_stops (fault.NotATable at) block tells = absurd tells
+head_stops fault.WorkflowDiffers block tells = absurd tells
+
+pub outside_stops : (e : Stop TableFault) (wrong : Option ℕ) → StopsOutside e → Verifies {X = ℕ} (Err e) wrong
+outside_stops stop.Memory wrong stops = tt
+outside_stops (stop.Fault fault.Disk) wrong stops = tt
+outside_stops (stop.Fault (fault.NotATable at)) wrong stops = absurd stops
+outside_stops (stop.Fault fault.WorkflowDiffers) wrong stops = absurd stops
+
+pub outside_takes : (e : Stop TableFault) (taken : List (List Value)) (reading : Result (List (List Value)) ℕ) → StopsOutside e → TakesRows {X = ℕ} (Err e) taken reading
+outside_takes stop.Memory taken reading stops = tt
+outside_takes (stop.Fault fault.Disk) taken reading stops = tt
+outside_takes (stop.Fault (fault.NotATable at)) taken reading stops = absurd stops
+outside_takes (stop.Fault fault.WorkflowDiffers) taken reading stops = absurd stops
 
 pub head_caused : (gate before now : ℕ) (f : TableFault) → IsHeadFault gate before now f → IsCaused before now f
 head_caused gate before now fault.Disk is = is
