@@ -1,5 +1,5 @@
 -- What the bytes of a file tell: no table yet, a table, or the first place that is wrong.
-use Rattle.std.specs.Prelude.{◌≡◌, ◌≢◌, ◌⊎◌, ◌≤◌, ◌<◌, ◌+◌, ◌^◌, ℕ, List, [], ◌∷◌, ◌++◌, length, take, drop, slice_index, codes, Bool, true, false, All, Result, Ok, Err}
+use Rattle.std.specs.Prelude.{◌≡◌, ◌≢◌, ◌⊎◌, ◌≤◌, ◌<◌, ◌+◌, ◌^◌, ℕ, List, [], ◌∷◌, ◌++◌, length, take, drop, slice_index, codes, true, All, Result, Ok, Err}
 use Rattle.std.specs.List.{sum_by}
 use Rattle.std.specs.Int.{w32, to_be_bytes}
 use Rattle.tuple_schema.specs.declared.memory.Stop.{Stop}
@@ -8,15 +8,16 @@ use Rattle.commit_disk.specs.declared.attaching.TableFault.{TableFault}
 use Rattle.commit_disk.specs.declared.attaching.TableFault.TheVariants.{Disk, NotATable, WorkflowDiffers}
 use Rattle.commit_disk.specs.declared.attaching.Attached.{Attached}
 use Rattle.commit_disk.specs.declared.attaching.Attached.TheVariants.{NotMade, Made}
-use Rattle.commit_disk.specs.Table.{Stored, IsStored, HoldsUpTo, IsNotMade, front}
+use Rattle.commit_disk.specs.Table.{Stored, TableBlock, IsTableBlock, AreInPlace, HoldsBlocksUpTo, IsNotMade, front, row_blocks, has_end}
 use Rattle.commit_disk.specs.Journal.{JournalState}
 
--- up to this place the image is spelled as a table of this text and these blocks, ended or not, and a gate stands there
-pub record LeadsTo (place : ℕ) (image text : List ℕ) (blocks : List Stored) (ended : Bool) : Type 0 where
-  pub spelled : take place image ≡ front text blocks ended
+-- up to this place the image is spelled as a table of this text and these blocks, and a gate stands there
+pub record LeadsTo (place : ℕ) (image text : List ℕ) (blocks : List TableBlock) : Type 0 where
+  pub spelled : take place image ≡ front text blocks
   pub gate : place < length image
   pub short : length text ≤ 65536
-  pub stored : All IsStored blocks
+  pub stored : All IsTableBlock blocks
+  pub placed : AreInPlace blocks
   pub room : place < 2 ^ 48
 
 -- the image is long enough for a table, and its made gate is open
@@ -34,7 +35,7 @@ HasVersion image = take 4 (drop 8 image) ≡ to_be_bytes w32 1
 
 -- a whole flow text stands in the head, and a gate behind it
 abbrev pub HasText : List ℕ → Type 0
-HasText image = (text : List ℕ) × LeadsTo (16 + length text) image text [] false
+HasText image = (text : List ℕ) × LeadsTo (16 + length text) image text []
 
 -- the head of a made image is wrong, and this is where: the name is, or the version, or the text or its length
 pub record IsWrongHead (place : ℕ) (image : List ℕ) : Type 0 where
@@ -46,21 +47,19 @@ pub record IsWrongHead (place : ℕ) (image : List ℕ) : Type 0 where
 
 -- a table of this text and these blocks leads to an open gate at this place, and from there no block leads on to a next
 -- gate
-pub record IsStuck (place : ℕ) (image text : List ℕ) (blocks : List Stored) (ended : Bool) : Type 0 where
-  pub leads : LeadsTo place image text blocks ended
+pub record IsStuck (place : ℕ) (image text : List ℕ) (blocks : List TableBlock) : Type 0 where
+  pub leads : LeadsTo place image text blocks
   pub open_gate : slice_index image place ≡ 1
-  pub no_rows : ended ≡ false → (block : Stored) (next : ℕ) → LeadsTo next image text (blocks ++ block ∷ []) false → ⊥
-  pub no_end : ended ≡ false → (next : ℕ) → LeadsTo next image text blocks true → ⊥
+  pub no_block : (block : TableBlock) (next : ℕ) → LeadsTo next image text (blocks ++ block ∷ []) → ⊥
 
 -- the image is made and no table, and this is the first wrong place: in the head, or the gate of a block
 abbrev pub IsWrongAt : ℕ → List ℕ → Type 0
 IsWrongAt place image =
-    IsWrongHead place image ⊎ ((text : List ℕ) × (blocks : List Stored) × (ended : Bool)
-    × IsStuck place image text blocks ended)
+    IsWrongHead place image ⊎ ((text : List ℕ) × (blocks : List TableBlock) × IsStuck place image text blocks)
 
 -- the image is a table of this text, up to this place
 abbrev pub IsTable : ℕ → List ℕ → List ℕ → Type 0
-IsTable place image text = (blocks : List Stored) × (ended : Bool) × HoldsUpTo place image text blocks ended
+IsTable place image text = (blocks : List TableBlock) × HoldsBlocksUpTo place image text blocks
 
 -- how many rows these blocks have
 abbrev pub rows_in : List Stored → ℕ
@@ -68,10 +67,11 @@ rows_in blocks = sum_by (λ block. block.count) blocks
 
 -- the journal tells of the table of this text that the image is
 pub record TellsOf (journal : JournalState) (image text : List ℕ) : Type 0 where
-  pub blocks : List Stored
-  pub holds : HoldsUpTo journal.gate image text blocks journal.ended
+  pub blocks : List TableBlock
+  pub holds : HoldsBlocksUpTo journal.gate image text blocks
   pub first : journal.first ≡ 16 + length text
-  pub counts : journal.count ≡ rows_in blocks
+  pub counts : journal.count ≡ rows_in (row_blocks blocks)
+  pub ended : journal.ended ≡ has_end blocks
   pub sound : journal.sound ≡ true
 
 -- what is found in the image: no table yet, or a table of this text, of which the journal tells

@@ -1,13 +1,10 @@
 -- What the parts of attaching tell, head by head.
-use Rattle.std.specs.Prelude.{◌≡◌, ◌≢◌, ◌≤◌, ◌<◌, ◌+◌, ℕ, List, [], ◌∷◌, ◌++◌, length, slice_index, Bool, true, false, Option, Some, None, Result, Ok, Err}
-use Rattle.std.specs.Int.{w32, to_be_bytes}
+use Rattle.std.specs.Prelude.{◌≡◌, ◌≢◌, ◌≤◌, ◌+◌, ℕ, List, [], length, slice_index, Bool, true, false, Option, Some, None, Result, Ok, Err}
 use Rattle.outside.specs.Counts.{Rose}
 use Rattle.commit_disk.specs.declared.attaching.TableFault.{TableFault}
 use Rattle.commit_disk.specs.declared.attaching.TableFault.TheVariants.{Disk, NotATable, WorkflowDiffers}
 use Rattle.commit_disk.specs.declared.attaching.Attached.{Attached}
-use Rattle.commit_disk.specs.declared.attaching.BlockHead.{BlockHead}
-use Rattle.commit_disk.specs.declared.attaching.BlockHead.TheVariants.{Rows, End}
-use Rattle.commit_disk.specs.Table.{Stored, IsNotMade, end_block}
+use Rattle.commit_disk.specs.Table.{TableBlock, IsNotMade, row_blocks, has_end}
 use Rattle.commit_disk.specs.Journal.{JournalState}
 use Rattle.commit_disk.specs.Attach.{LeadsTo, IsWrongAt, TellsOf, FindTells, FaultTells, rows_in}
 
@@ -25,37 +22,16 @@ FrameFaultTells WorkflowDiffers image = ⊥
 -- what stands in the head: no table, or a flow text of so many bytes
 abbrev pub HeadTells : Result (Option ℕ) TableFault → List ℕ → Type 0
 HeadTells (Ok None) image = IsNotMade image
-HeadTells (Ok (Some len)) image = (text : List ℕ) × (length text ≡ len) × LeadsTo (16 + len) image text [] false
+HeadTells (Ok (Some len)) image = (text : List ℕ) × (length text ≡ len) × LeadsTo (16 + len) image text []
 HeadTells (Err fault) image = FrameFaultTells fault image
-
--- what stands behind the gate of a block of so many rows in so many bytes, before the rows
-abbrev pub rows_head : ℕ → ℕ → List ℕ
-rows_head count len = 0 ∷ to_be_bytes w32 count ++ to_be_bytes w32 len
-
--- the head of a block that may stand there, where so many bytes are left
-pub record IsRowsHead (room count len : ℕ) (behind : List ℕ) : Type 0 where
-  pub some : 1 ≤ count
-  pub few : count ≤ 4096
-  pub short : len < 4456640
-  pub fits : 11 + len ≤ room
-  pub spelled : behind ≡ rows_head count len
-
-pub record IsEndHead (room : ℕ) (behind : List ℕ) : Type 0 where
-  pub fits : 11 ≤ room
-  pub spelled : behind ≡ end_block
-
--- which block begins with these bytes behind its gate
-abbrev pub BlockTells : Option BlockHead → ℕ → List ℕ → Type 0
-BlockTells None room behind = ((count len : ℕ) → IsRowsHead room count len behind → ⊥) × (IsEndHead room behind → ⊥)
-BlockTells (Some (Rows count len)) room behind = IsRowsHead room count len behind
-BlockTells (Some End) room behind = IsEndHead room behind
 
 -- the journal tells how far the blocks of a table of this text lead
 pub record IsOnTheWay (journal : JournalState) (image text : List ℕ) : Type 0 where
-  pub blocks : List Stored
-  pub leads : LeadsTo journal.gate image text blocks journal.ended
+  pub blocks : List TableBlock
+  pub leads : LeadsTo journal.gate image text blocks
   pub first : journal.first ≡ 16 + length text
-  pub counts : journal.count ≡ rows_in blocks
+  pub counts : journal.count ≡ rows_in (row_blocks blocks)
+  pub ended : journal.ended ≡ has_end blocks
   pub sound : journal.sound ≡ true
 
 -- one gate on, or at the first closed gate, or at a wrong one

@@ -1,6 +1,6 @@
 -- What a journal tells of its table, and what its calls do to the image.
 use Rattle.std.specs.Prelude.{◌≤◌, ◌<◌, ◌+◌, ◌*◌, ◌^◌, ℕ, List, [], ◌∷◌, ◌++◌, length, Bool, true, false}
-use Rattle.commit_disk.specs.Table.{Stored, HoldsUpTo}
+use Rattle.commit_disk.specs.Table.{TableBlock, rows_block, end_block, AreInPlace, HoldsBlocksUpTo}
 
 -- the places of the first block's gate and of the first closed gate, how many rows there are,
 -- whether the table is ended, and whether all of this is still known
@@ -16,12 +16,9 @@ abbrev pub new_journal : List ℕ → JournalState
 new_journal text = record { first = 16 + length text; gate = 16 + length text; count = 0; ended = false; sound = true }
 
 -- the journal after a block that was committed
-abbrev pub after_block : JournalState → Stored → JournalState
-after_block old block = record old { gate = old.gate + 10 + length block.bytes; count = old.count + block.count }
-
--- the journal after the end block
-abbrev pub after_end : JournalState → JournalState
-after_end old = record old { gate = old.gate + 10; ended = true }
+abbrev pub after : JournalState → TableBlock → JournalState
+after old (rows_block rows) = record old { gate = old.gate + 10 + length rows.bytes; count = old.count + rows.count }
+after old end_block = record old { gate = old.gate + 10; ended = true }
 
 -- the gates are in order and within the longest file, and so the rows can be counted
 pub record IsInOrder (first gate count : ℕ) : Type 0 where
@@ -29,13 +26,9 @@ pub record IsInOrder (first gate count : ℕ) : Type 0 where
   pub room : gate < 2 ^ 48
   pub counted : count ≤ 4096 * gate
 
--- whatever the old image holds up to the old gate, the new one holds with this block behind it, up to the next gate
-abbrev pub Commits : ℕ → ℕ → Stored → List ℕ → List ℕ → Type 0
+-- whatever the old image holds up to the old gate, behind which this block may stand, the new one holds with the block
+-- behind it, up to the next gate
+abbrev pub Commits : ℕ → ℕ → TableBlock → List ℕ → List ℕ → Type 0
 Commits gate next block old new =
-    (text : List ℕ) (blocks : List Stored) → HoldsUpTo gate old text blocks false
-    → HoldsUpTo next new text (blocks ++ block ∷ []) false
-
--- whatever the old image holds up to the old gate, the new one holds, ended, up to the next gate
-abbrev pub Ends : ℕ → ℕ → List ℕ → List ℕ → Type 0
-Ends gate next old new =
-    (text : List ℕ) (blocks : List Stored) → HoldsUpTo gate old text blocks false → HoldsUpTo next new text blocks true
+    (text : List ℕ) (blocks : List TableBlock) → AreInPlace (blocks ++ block ∷ [])
+    → HoldsBlocksUpTo gate old text blocks → HoldsBlocksUpTo next new text (blocks ++ block ∷ [])

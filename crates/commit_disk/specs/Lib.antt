@@ -3,6 +3,8 @@ pub mod Journal
 pub mod Buffer
 pub mod Gate
 pub mod Crashes
+pub mod BlockHeads
 pub mod Attach
+pub mod RowTables
 pub mod Frames
 pub mod Growth

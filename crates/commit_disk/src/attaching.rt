@@ -6,11 +6,12 @@ ghost use Rattle.tuple_schema.specs.Stops.{IfFault};
 ghost use Rattle.tuple_schema.specs.declared.memory.Stop.TheVariants as stop;
 ghost use Rattle.commit_disk.specs.declared.attaching.TableFault.TheVariants as fault;
 ghost use Rattle.commit_disk.specs.Attach.{LeadsTo, HasName, AttachTells, IsVerdict, IsWithin, IsSound};
-ghost use Rattle.commit_disk.specs.Frames.{HasDiskCause, HeadTells, BlockTells, IsOnTheWay, PassTells, GateTells, GatesTell, FoundTells};
+ghost use Rattle.commit_disk.specs.Frames.{HasDiskCause, HeadTells, IsOnTheWay, PassTells, GateTells, GatesTell, FoundTells};
 
-use crate::gate::{CLOSED, MADE_GATE, OPEN};
+use crate::block_head::{block_of, number_at, read_block_head};
+use crate::gate::{MADE_GATE, OPEN};
 use crate::journal::VERSION;
-use crate::{FULL_BYTES, Journal, MAX_FLOW_BYTES, MAX_ROW_BYTES, MAX_ROWS};
+use crate::{Journal, MAX_FLOW_BYTES};
 use outside::{Disk, Failed, MAX_SIZE};
 use std::alloc::{AllocError, Global};
 use tuple_schema::Stop;
@@ -90,41 +91,6 @@ const TEXT_PLACE: u64 = 16;
 
 const NAME: [u8; 7] = *b"WHTABLE";
 
-// What stands behind a gate, before the rows.
-enum BlockHead {
-    Rows { count: u32, len: u32 },
-    End,
-}
-
-// The number that stands at that place.
-fn number_at(bytes: &[u8], at: usize) -> u32
-    requires { at + 4 ≤ length bytes.now }
-    ensures value { result ≡ from_be_bytes w32 (take 4 (drop at bytes.now)) }
-    ensures bytes { to_be_bytes w32 result ≡ take 4 (drop at bytes.now) }
-{
-    let mut number = [0; 4];
-    number.copy_from_slice(&bytes[at..at + 4]);
-    u32::from_be_bytes(number)
-}
-
-// Which block begins with these bytes, where so many bytes are left for it and the next gate.
-fn block_of(head: &[u8; 10], room: u64) -> Option<BlockHead>
-    ensures { BlockTells result room (drop 1 head.now) }
-{
-    let count = number_at(head, 2);
-    let len = number_at(head, 6);
-    if room < 11 || room - 11 < len as u64 {
-        return None;
-    }
-    match head[1] {
-        0 if 1 <= count && count <= MAX_ROWS && len < FULL_BYTES + MAX_ROW_BYTES => {
-            Some(BlockHead::Rows { count, len })
-        }
-        1 if count == 0 && len == 0 => Some(BlockHead::End),
-        _ => None,
-    }
-}
-
 fn has_name(head: &[u8; 16]) -> bool
     ensures { IsTrue result ↔ HasName head.now }
 {
@@ -170,28 +136,10 @@ fn pass_block(journal: &mut Journal, head: &[u8; 10], room: u64) -> Result<(), T
         return Err(TableFault::NotATable { at });
     }
     match block_of(head, room) {
-        Some(BlockHead::Rows { count, len }) => journal.pass_rows(count, len),
-        Some(BlockHead::End) => journal.pass_end(),
+        Some(block) => journal.pass(block),
         None => return Err(TableFault::NotATable { at }),
     }
     Ok(())
-}
-
-// Reads the first bytes of a block, as many as there are.
-fn read_block_head<K: Disk>(disk: &mut K, gate: u64, size: u64) -> Result<[u8; 10], Failed>
-    requires within { gate < size }
-    requires size { size ≤ (K.state disk.old).size }
-    ensures gate { IfOk result (λ head. IsTrue (K.state disk.old).honest → size ≡ length (K.state disk.old).file
-        → slice_index head 0 ≡ slice_index (K.state disk.old).file gate) }
-    ensures bytes { IfOk result (λ head. IsTrue (K.state disk.old).honest → size ≡ length (K.state disk.old).file
-        → gate + 10 ≤ size → head ≡ take 10 (drop gate (K.state disk.old).file)) }
-    ensures read { OnlyReads (K.state disk.old) (K.state disk.new) }
-    ensures cause { HasCause (K.state disk.old).faults (K.state disk.new).faults result }
-{
-    let mut head = [CLOSED; 10];
-    let len = (size - gate).min(10) as usize;
-    disk.read_at(gate, &mut head[..len])?;
-    Ok(head)
 }
 
 // Goes on from a gate to the next, where it is open. Answers whether it was.
@@ -224,7 +172,7 @@ fn read_gates<K: Disk>(disk: &mut K, size: u64, first: u64) -> Result<Journal, T
     requires room { first < 2 ^ 48 }
     requires size { size ≤ (K.state disk.old).size }
     ensures tells { IsTrue (K.state disk.old).honest → size ≡ length (K.state disk.old).file
-        → (text : List ℕ) → first ≡ 16 + length text → LeadsTo first (K.state disk.old).file text [] false
+        → (text : List ℕ) → first ≡ 16 + length text → LeadsTo first (K.state disk.old).file text []
         → GatesTell result (K.state disk.old).file text }
     ensures within { IfOk result (λ journal. journal.gate < size) }
     ensures sound { IfOk result (λ journal. journal.sound ≡ true) }

@@ -2,6 +2,7 @@
 ghost use Rattle.std.specs.Prelude.{◌≡◌, ◌≤◌, ◌<◌, ◌+◌, ◌++◌, ◌-◌, ◌∷◌, [], length, take, drop, vec_len, vec_capacity, IfOk};
 ghost use Rattle.std.specs.Int.{w32, to_be_bytes};
 ghost use Rattle.commit_disk.specs.Buffer.{no_rows, with_row, behind_gate};
+ghost use Rattle.commit_disk.specs.Table.{rows_block};
 
 use crate::gate::CLOSED;
 use std::alloc::Global;
@@ -71,7 +72,7 @@ impl Block {
 
     // What is written behind its gate.
     pub(crate) fn behind_gate(&self) -> &[u8]
-        ensures behind { result.now ≡ behind_gate self.now }
+        ensures behind { result.now ≡ behind_gate (rows_block self.now) }
         ensures len { length result.now ≡ 10 + length self.now.bytes }
         ensures few { self.now.count ≤ MAX_ROWS }
         ensures short { length self.now.bytes < FULL_BYTES + MAX_ROW_BYTES }

@@ -3,12 +3,13 @@ ghost use Rattle.std.specs.Prelude.{◌≡◌, ◌≤◌, ◌<◌, ◌+◌, ◌^
 ghost use Rattle.outside.specs.Words.{HasCause, Rose, Each, Elapses, IsSettled, LeftBetween, PassesOver};
 ghost use Rattle.tuple_schema.specs.Stops.{IfFault};
 ghost use Rattle.tuple_schema.specs.declared.memory.Stop.TheVariants as stop;
-ghost use Rattle.commit_disk.specs.Table.{Stored, Holds, HoldsUpTo, IsNotMade, head};
-ghost use Rattle.commit_disk.specs.Journal.{new_journal, after_block, after_end, Commits, Ends};
-ghost use Rattle.commit_disk.specs.Crashes.{IsEmptyOrNotMade, LeavesWhole, LeavesEnd, Grows};
+ghost use Rattle.commit_disk.specs.Table.{TableBlock, rows_block, end_block, Holds, HoldsUpTo, IsNotMade, head};
+ghost use Rattle.commit_disk.specs.Journal.{new_journal, after, Commits};
+ghost use Rattle.commit_disk.specs.Crashes.{IsEmptyOrNotMade, LeavesWhole, Grows, GrowsBy};
+ghost use Rattle.commit_disk.specs.BlockHeads.{count_in, len_in, passed, IsWritten};
 
 use crate::gate::{CLOSED, MADE_GATE, close_made_gate, open_gate};
-use crate::{Block, MAX_ROWS};
+use crate::{Block, BlockHead, MAX_ROWS};
 use outside::{Disk, Failed, MAX_SIZE};
 use std::alloc::Global;
 use std::marker::Model;
@@ -97,23 +98,22 @@ impl Journal {
         }
     }
 
-    // Goes on behind a block of rows.
-    pub(crate) fn pass_rows(&mut self, count: u32, len: u32)
-        requires few { count ≤ MAX_ROWS }
-        requires room { self.old.gate + 10 + len < 2 ^ 48 }
-        ensures { self.new ≡ record self.old { gate = self.old.gate + 10 + len; count = self.old.count + count } }
+    // Goes on behind a block with this head.
+    pub(crate) fn pass(&mut self, head: BlockHead)
+        requires few { count_in head ≤ MAX_ROWS }
+        requires room { self.old.gate + 10 + len_in head < 2 ^ 48 }
+        ensures { self.new ≡ passed self.old head }
     {
-        self.gate += END.len() as u64 + len as u64;
-        self.count += count as u64;
-    }
-
-    // Goes on behind the end block.
-    pub(crate) fn pass_end(&mut self)
-        requires { self.old.gate + 10 < 2 ^ 48 }
-        ensures { self.new ≡ after_end self.old }
-    {
-        self.gate += END.len() as u64;
-        self.ended = true;
+        match head {
+            BlockHead::Rows { count, len } => {
+                self.gate += END.len() as u64 + len as u64;
+                self.count += count as u64;
+            }
+            BlockHead::End => {
+                self.gate += END.len() as u64;
+                self.ended = true;
+            }
+        }
     }
 
     /// Commits a block: at Ok the table has it behind the others. At Err attach the table again.
@@ -124,29 +124,28 @@ impl Journal {
         requires fits { self.old.gate + 11 + length block.now.bytes ≤ MAX_SIZE }
         requires place { self.old.gate < (K.state disk.old).size }
 
-        ensures moved { OnOk result (self.new ≡ after_block self.old block.now) }
+        ensures moved { OnOk result (self.new ≡ after self.old (rows_block block.now)) }
         ensures done { OnOk result (IsTrue (K.state disk.old).honest
-            → Commits self.old.gate self.new.gate block.now (K.state disk.old).file (K.state disk.new).file) }
+            → Commits self.old.gate self.new.gate (rows_block block.now) (K.state disk.old).file (K.state disk.new).file) }
         ensures size { OnOk result (self.new.gate < (K.state disk.new).size) }
 
         ensures settled { OnOk result (IsTrue (K.state disk.old).honest → IsSettled (K.state disk.new)) }
         // A crash at any moment of the call leaves the blocks from before it, or those and this one whole.
         ensures any_moment { IsTrue (K.state disk.old).honest → IsSettled (K.state disk.old)
-            → LeavesWhole self.old.gate block.now (K.state disk.old).file
+            → LeavesWhole self.old.gate (rows_block block.now) (K.state disk.old).file
             (LeftBetween (K.state disk.old) (K.state disk.new)) }
         ensures grows { IsTrue (K.state disk.old).honest → IsSettled (K.state disk.old)
-            → (text : List ℕ) (blocks : List Stored) → HoldsUpTo self.old.gate (K.state disk.old).file text blocks false
-            → Grows text (K.state disk.old) (K.state disk.new) }
+            → GrowsBy self.old.gate (rows_block block.now) (K.state disk.old) (K.state disk.new) }
         ensures elapses { Elapses (K.state disk.old) (K.state disk.new) }
 
         ensures unsound { OnErr result (self.new ≡ record self.old { sound = false }) }
         ensures cause { HasCause (K.state disk.old).faults (K.state disk.new).faults result }
     {
-        self.sound = false;
-        open_gate(disk, self.gate, block.behind_gate())?;
-        self.sound = true;
-        self.pass_rows(block.rows(), block.len());
-        Ok(())
+        let head = BlockHead::Rows {
+            count: block.rows(),
+            len: block.len(),
+        };
+        self.add(disk, head, block.behind_gate())
     }
 
     /// Commits the end block: at Ok the table is ended. At Err attach the table again.
@@ -156,27 +155,57 @@ impl Journal {
         requires fits { self.old.gate + 11 ≤ MAX_SIZE }
         requires place { self.old.gate < (K.state disk.old).size }
 
-        ensures moved { OnOk result (self.new ≡ after_end self.old) }
+        ensures moved { OnOk result (self.new ≡ after self.old end_block) }
         ensures done { OnOk result (IsTrue (K.state disk.old).honest
-            → Ends self.old.gate self.new.gate (K.state disk.old).file (K.state disk.new).file) }
+            → Commits self.old.gate self.new.gate end_block (K.state disk.old).file (K.state disk.new).file) }
         ensures size { OnOk result (self.new.gate < (K.state disk.new).size) }
 
         ensures settled { OnOk result (IsTrue (K.state disk.old).honest → IsSettled (K.state disk.new)) }
-        // A crash at any moment of the call leaves the blocks from before it, ended or not.
+        // A crash at any moment of the call leaves the blocks from before it, or those and the end block.
         ensures any_moment { IsTrue (K.state disk.old).honest → IsSettled (K.state disk.old)
-            → LeavesEnd self.old.gate (K.state disk.old).file (LeftBetween (K.state disk.old) (K.state disk.new)) }
+            → LeavesWhole self.old.gate end_block (K.state disk.old).file
+            (LeftBetween (K.state disk.old) (K.state disk.new)) }
         ensures grows { IsTrue (K.state disk.old).honest → IsSettled (K.state disk.old)
-            → (text : List ℕ) (blocks : List Stored) → HoldsUpTo self.old.gate (K.state disk.old).file text blocks false
-            → Grows text (K.state disk.old) (K.state disk.new) }
+            → GrowsBy self.old.gate end_block (K.state disk.old) (K.state disk.new) }
+        ensures elapses { Elapses (K.state disk.old) (K.state disk.new) }
+
+        ensures unsound { OnErr result (self.new ≡ record self.old { sound = false }) }
+        ensures cause { HasCause (K.state disk.old).faults (K.state disk.new).faults result }
+    {
+        self.add(disk, BlockHead::End, &END)
+    }
+
+    // Commits the block with this head, of which these bytes stand behind the gate.
+    fn add<K: Disk>(&mut self, disk: &mut K, head: BlockHead, behind: &[u8]) -> Result<(), Failed>
+        requires sound { IsTrue self.old.sound }
+        requires few { count_in head ≤ MAX_ROWS }
+        requires len { length behind.now ≡ 10 + len_in head }
+        requires fits { self.old.gate + 11 + len_in head ≤ MAX_SIZE }
+        requires place { self.old.gate < (K.state disk.old).size }
+
+        ensures moved { OnOk result (self.new ≡ passed self.old head) }
+        ensures done { OnOk result (IsTrue (K.state disk.old).honest → (block : TableBlock)
+            → IsWritten block head behind.now
+            → Commits self.old.gate self.new.gate block (K.state disk.old).file (K.state disk.new).file) }
+        ensures size { OnOk result (self.new.gate < (K.state disk.new).size) }
+
+        ensures settled { OnOk result (IsTrue (K.state disk.old).honest → IsSettled (K.state disk.new)) }
+        ensures any_moment { IsTrue (K.state disk.old).honest → IsSettled (K.state disk.old) → (block : TableBlock)
+            → IsWritten block head behind.now
+            → LeavesWhole self.old.gate block (K.state disk.old).file
+            (LeftBetween (K.state disk.old) (K.state disk.new)) }
+        ensures grows { IsTrue (K.state disk.old).honest → IsSettled (K.state disk.old) → (block : TableBlock)
+            → IsWritten block head behind.now
+            → GrowsBy self.old.gate block (K.state disk.old) (K.state disk.new) }
         ensures elapses { Elapses (K.state disk.old) (K.state disk.new) }
 
         ensures unsound { OnErr result (self.new ≡ record self.old { sound = false }) }
         ensures cause { HasCause (K.state disk.old).faults (K.state disk.new).faults result }
     {
         self.sound = false;
-        open_gate(disk, self.gate, &END)?;
+        open_gate(disk, self.gate, behind)?;
         self.sound = true;
-        self.pass_end();
+        self.pass(head);
         Ok(())
     }
 }

@@ -210,6 +210,33 @@ fn the_first_wrong_place_is_told(rt: HostRuntime) -> Result<(), Fail> {
     Ok(())
 }
 
+// The head of the block at that gate of the table.
+fn head_at(alloc: Global, gate: u64) -> Result<Result<BlockHead, TableFault>, Fail> {
+    let mut disk = MemoryDisk::new(alloc, &TABLE)?;
+    match attach(alloc, &mut disk, b"x") {
+        Ok(Attached::Made(journal)) if gate < journal.gate() => {
+            Ok(journal.block_at(&mut disk, gate))
+        }
+        _ => Err(Fail::new("no such gate")),
+    }
+}
+
+#[test]
+fn a_head_tells_of_its_block(rt: HostRuntime) -> Result<(), Fail> {
+    let alloc = rt.alloc();
+    for (gate, want) in [
+        (17, Ok(BlockHead::Rows { count: 2, len: 3 })),
+        (30, Ok(BlockHead::Rows { count: 1, len: 1 })),
+        (41, Ok(BlockHead::End)),
+        // A byte that isn't an open gate, and one behind which no block fits.
+        (18, Err(TableFault::NotATable { at: 18 })),
+        (42, Err(TableFault::NotATable { at: 42 })),
+    ] {
+        assert_eq!(rt; head_at(alloc, gate)?, want, "at {gate}");
+    }
+    Ok(())
+}
+
 // How many of four steps were acknowledged: the table made, its two blocks, its end.
 fn steps_done(alloc: Global, disk: &mut MemoryDisk) -> Result<u32, Memory>
     requires { IsNotMade (file_of disk.old) }

@@ -6,7 +6,8 @@ use Rattle.tuple_schema.specs.declared.schema.Column.{Column}
 use Rattle.row_codec.specs.Decoding.{IsRowOf}
 use Rattle.commit_disk.specs.declared.attaching.Attached.{Attached}
 use Rattle.commit_disk.specs.declared.attaching.Attached.TheVariants.{NotMade, Made}
-use Rattle.commit_disk.specs.Table.{Stored, Holds, HoldsUpTo, HoldsOnce, IsNotMade}
+use Rattle.commit_disk.specs.Table.{Stored, Holds, HoldsUpTo, HoldsOnce, IsNotMade, row_blocks}
+use Rattle.commit_disk.specs.RowTables.{told_rows}
 use Rattle.commit_disk.specs.Attach.{VerdictsAgree}
 use Rattle.commit_disk.specs.Crashes.{IsEmptyOrNotMade}
 use Rattle.table_read.specs.Rows.{table_rows}
@@ -41,13 +42,13 @@ begun NotMade image text columns not_made = record {
   next = λ unended. inr (not_made, refl, refl);
 }
 begun (Made journal) image text columns (told, (rows, decodes)) = record {
-  olds = told.blocks;
+  olds = row_blocks told.blocks;
   committed = rows;
   decodes = decodes;
-  holds = inl (record { blocks = told.blocks; holds = told.holds.holds; decodes = decodes });
-  count = told.counts ∙ sym (table_rows-length columns (16 + length text) told.blocks rows decodes);
-  at = λ unended. subst (λ (b : Bool). HoldsUpTo journal.gate image text told.blocks b) unended told.holds;
-  next = λ unended. inl (subst (λ (b : Bool). HoldsUpTo journal.gate image text told.blocks b) unended told.holds);
+  holds = inl (record { blocks = row_blocks told.blocks; holds = (told_rows journal image text told).holds; decodes = decodes });
+  count = told.counts ∙ sym (table_rows-length columns (16 + length text) (row_blocks told.blocks) rows decodes);
+  at = λ unended. subst (λ (b : Bool). HoldsUpTo journal.gate image text (row_blocks told.blocks) b) unended (told_rows journal image text told);
+  next = λ unended. inl (subst (λ (b : Bool). HoldsUpTo journal.gate image text (row_blocks told.blocks) b) unended (told_rows journal image text told));
 }
 
 -- new blocks behind old ones that have rows hold the rows of both

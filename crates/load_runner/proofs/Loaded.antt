@@ -9,7 +9,7 @@ use Rattle.tuple_schema.specs.declared.memory.Stop.TheVariants.{Memory, Fault}
 use Rattle.tuple_schema.specs.Stops.{IfFault}
 use Rattle.row_codec.specs.Decoding.{IsRowOf}
 use Rattle.commit_disk.specs.declared.attaching.Attached.{Attached}
-use Rattle.commit_disk.specs.Table.{Stored, Holds, HoldsOnce, front}
+use Rattle.commit_disk.specs.Table.{Stored, Holds, HoldsOnce, front, table}
 use Rattle.commit_disk.specs.Attach.{VerdictsAgree}
 use Rattle.commit_disk.specs.Growth.{grows_still, nothing_lost}
 use Rattle.table_read.specs.Rows.{table_rows}
@@ -61,7 +61,7 @@ unfolding table_rows
 stood_of file text columns had (inl has) = record {
   olds = has.blocks;
   decodes = has.decodes;
-  gate = length (front text has.blocks false);
+  gate = length (front text (table has.blocks false));
   at = inl (record { holds = has.holds; at = refl });
 }
 stood_of file text columns had (inr none) = record { olds = []; decodes = ap Ok (sym none.1); gate = 16 + length text; at = inr (none.0, refl, refl) }

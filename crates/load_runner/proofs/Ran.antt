@@ -9,6 +9,7 @@ use Rattle.commit_disk.specs.declared.attaching.Attached.TheVariants.{NotMade, M
 use Rattle.row_codec.specs.Decoding.{IsRowOf}
 use Rattle.commit_disk.specs.Table.{Stored, Holds, HoldsOnce}
 use Rattle.commit_disk.specs.Attach.{VerdictsAgree}
+use Rattle.commit_disk.specs.RowTables.{holds_rows_once}
 use Rattle.commit_disk.specs.Crashes.{Grows, HasStill, HasTable}
 use Rattle.commit_disk.specs.Growth.{grows_on, grows_still}
 use Rattle.table_write.specs.Cut.{IsCut, cut, together}
@@ -234,7 +235,7 @@ module _ (agree : VerdictsAgree) (once : HoldsOnce) (law : BlocksHold) (job : Jo
   has_on : (text : List ℕ) (blocks : List Stored) → HasTable text blocks mid.file → Holds mid.file job.text olds false → (taken : List (List (List Value))) (ended : Bool) (image : List ℕ)
       → Holds image job.text (with_blocks olds taken) ended → HasTable text blocks image
   has_on text blocks has holds taken ended image grown =
-      let one = once mid.file text job.text (blocks ++ has.0) olds has.1 false has.2 holds in
+      let one = holds_rows_once once mid.file text job.text (blocks ++ has.0) olds has.1 false has.2 holds in
       let are : with_blocks olds taken ≡ blocks ++ with_blocks has.0 taken = ap (λ (bs : List Stored). with_blocks bs taken) (sym one.1) ∙ append_assoc blocks has.0 (map stored_of taken) in (
         with_blocks has.0 taken,
         ended,
@@ -267,5 +268,5 @@ module _ (agree : VerdictsAgree) (once : HoldsOnce) (law : BlocksHold) (job : Jo
   none_ended text blocks each =
       let holds : Holds mid.file text blocks true = subst (λ (file : List ℕ). Holds file text blocks true) (sym same) (each old.file (old.reads_image ran.honest)) in
       let unended = made_holds text blocks ([], true, subst (λ (bs : List Stored). Holds mid.file text bs true) (sym (append-nil blocks)) holds) in
-      let one = once mid.file text job.text blocks olds true false holds unended in
+      let one = holds_rows_once once mid.file text job.text blocks olds true false holds unended in
       let e : true ≡ false = one.2 in cc

@@ -9,7 +9,8 @@ use Rattle.row_codec.specs.Rows.{row_bytes}
 use Rattle.row_codec.specs.Decoding.{row_at}
 use Rattle.commit_disk.specs.declared.attaching.TableFault.TheVariants.{NotATable, WorkflowDiffers}
 use Rattle.commit_disk.specs.declared.attaching.Attached.TheVariants.{NotMade, Made}
-use Rattle.commit_disk.specs.Table.{Stored, Holds, HoldsOnce, IsNotMade, front}
+use Rattle.commit_disk.specs.Table.{Stored, Holds, HoldsOnce, IsNotMade}
+use Rattle.commit_disk.specs.RowTables.{holds_rows_once, journal_of, table_tells}
 use Rattle.commit_disk.specs.Journal.{JournalState}
 use Rattle.commit_disk.specs.Attach.{TellsOf, VerdictsAgree, rows_in}
 use Rattle.table_read.specs.Rows.{or_place, no_rows_at, rows_at, block_rows, next_gate, table_rows}
@@ -53,23 +54,9 @@ module _ (columns : List Column) where
       let split = sum_by-cons (λ (block : Stored). block.count) block blocks in
       omega (arith, sum, own, more, split)
 
--- the journal of a table
-journal_of : List ℕ → List Stored → Bool → JournalState
-journal_of text blocks ended = record { first = 16 + length text; gate = length (front text blocks ended); count = rows_in blocks; ended = ended; sound = true }
-
 -- a table is attached
 pub made_tells : (image text : List ℕ) (blocks : List Stored) (ended : Bool) → Holds image text blocks ended → (journal : JournalState) × TellsOf journal image text
-unfolding journal_of
-made_tells image text blocks ended holds = (
-  journal_of text blocks ended,
-  record {
-    blocks = blocks;
-    holds = record { holds = holds; at = refl };
-    first = refl;
-    counts = refl;
-    sound = refl;
-  },
-)
+made_tells image text blocks ended holds = (journal_of text blocks ended, table_tells image text blocks ended holds)
 
 module _ (agree : VerdictsAgree) (once : HoldsOnce) where
   -- what is a table isn't one that isn't made
@@ -82,7 +69,7 @@ module _ (agree : VerdictsAgree) (once : HoldsOnce) where
   pub rows_once : (image text : List ℕ) (columns : List Column) (some others : List (List Value)) (ended stopped : Bool)
       → HoldsRows image text columns some ended → HoldsRows image text columns others stopped → (some ≡ others) × (ended ≡ stopped)
   rows_once image text columns some others ended stopped (inl one) (inl two) =
-      let same = once image text text one.blocks two.blocks ended stopped one.holds two.holds in
+      let same = holds_rows_once once image text text one.blocks two.blocks ended stopped one.holds two.holds in
       (same_rows _ _ (sym one.decodes ∙ ap (table_rows columns (16 + length text)) same.1 ∙ two.decodes), same.2)
   rows_once image text columns some others ended stopped (inl one) (inr two) = absurd (not_both image text one.blocks ended one.holds two.0)
   rows_once image text columns some others ended stopped (inr one) (inl two) = absurd (not_both image text two.blocks stopped two.holds one.0)
@@ -99,7 +86,7 @@ module _ (agree : VerdictsAgree) (once : HoldsOnce) where
       let same = agree image text (Ok NotMade) (Err (Fault (NotATable place))) tt tt one.0 bad in
       cc
   rows_not_wrong image text columns some ended place (inl one) (inr bad) =
-      let same = once image text text one.blocks bad.blocks ended bad.ended one.holds bad.holds in
+      let same = holds_rows_once once image text text one.blocks bad.blocks ended bad.ended one.holds bad.holds in
       let no : Ok some ≡ Err place = sym one.decodes ∙ ap (table_rows columns (16 + length text)) same.1 ∙ bad.wrong in
       cc
   rows_not_wrong image text columns some ended place (inr one) (inr bad) = absurd (not_both image text bad.blocks bad.ended bad.holds one.0)
@@ -136,7 +123,7 @@ module _ (agree : VerdictsAgree) (once : HoldsOnce) where
       let same = agree image text (Ok (Made made.0)) (Err (Fault (NotATable place'))) tt tt made.1 two in
       cc
   wrong_once image text columns place place' (inr one) (inr two) =
-      let same = once image text text one.blocks two.blocks one.ended two.ended one.holds two.holds in
+      let same = holds_rows_once once image text text one.blocks two.blocks one.ended two.ended one.holds two.holds in
       let e : (let r : Result (List (List Value)) ℕ = Err place in r) ≡ Err place' = sym one.wrong ∙ ap (table_rows columns (16 + length text)) same.1 ∙ two.wrong in
       cc
 

@@ -8,7 +8,7 @@ use Rattle.commit_disk.specs.declared.attaching.TableFault.{TableFault}
 use Rattle.commit_disk.specs.declared.attaching.TableFault.TheVariants as table
 use Rattle.commit_disk.specs.declared.attaching.Attached.{Attached}
 use Rattle.commit_disk.specs.declared.attaching.Attached.TheVariants.{NotMade, Made}
-use Rattle.commit_disk.specs.Table.{Stored, HoldsUpTo, IsNotMade}
+use Rattle.commit_disk.specs.Table.{Stored, HoldsUpTo, IsNotMade, row_blocks}
 use Rattle.commit_disk.specs.Attach.{TellsOf}
 use Rattle.table_read.specs.Rows.{table_rows}
 use Rattle.load_runner.specs.declared.fault.LoadFault.{LoadFault}
@@ -30,7 +30,7 @@ abbrev pub Starts : Attached → List ℕ → List ℕ → List Column → Type 
 Starts NotMade image text columns = IsNotMade image
 Starts (Made journal) image text columns =
     (told : TellsOf journal image text) × ((rows : List (List Value))
-    × (table_rows columns (16 + length text) told.blocks ≡ Ok rows))
+    × (table_rows columns (16 + length text) (row_blocks told.blocks) ≡ Ok rows))
 
 -- the image has these blocks, behind which more may be added
 abbrev pub IsAt : Attached → List ℕ → List ℕ → List Stored → Type 0

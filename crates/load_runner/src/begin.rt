@@ -3,6 +3,7 @@ ghost use Rattle.std.specs.Prelude.{◌≡◌, ◌≤◌, ◌<◌, ℕ, List, Is
 ghost use Rattle.outside.specs.Words.{Rose, Elapses, Syncs, Spares, OnlyReads};
 ghost use Rattle.tuple_schema.specs.Stops.{IfFault};
 ghost use Rattle.tuple_schema.specs.declared.memory.Stop.TheVariants as stop;
+ghost use Rattle.commit_disk.specs.Table.{row_blocks};
 ghost use Rattle.commit_disk.specs.Attach.{IsWithin, IsSound, TellsOf};
 ghost use Rattle.table_read.specs.Rows.{table_rows};
 ghost use Rattle.load_runner.specs.declared.fault.LoadFault.TheVariants as fault;
@@ -64,7 +65,7 @@ fn verify_rows<K: Disk>(
     requires place { journal.now.gate < (K.state disk.old).size }
     ensures rows { OnOk result (IsTrue (K.state disk.old).honest → (text : List ℕ)
         → (table : TellsOf journal.now (K.state disk.old).file text)
-        → (rows : List (List Value)) × (table_rows schema.now (16 + length text) table.blocks ≡ Ok rows)) }
+        → (rows : List (List Value)) × (table_rows schema.now (16 + length text) (row_blocks table.blocks) ≡ Ok rows)) }
     ensures wrong { (place : ℕ) → result ≡ Err (stop.Fault (fault.NotATable place)) → IsTrue (K.state disk.old).honest
         → (text : List ℕ) → TellsOf journal.now (K.state disk.old).file text
         → HasWrongRow place (K.state disk.old).file text schema.now }

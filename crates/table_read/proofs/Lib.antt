@@ -1,3 +1,4 @@
 pub mod Readings
 pub mod Standing
 pub mod StoredRows
+pub mod Taking

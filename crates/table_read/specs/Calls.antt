@@ -1,17 +1,17 @@
 -- What the parts of verifying do.
-use Rattle.std.specs.Prelude.{◌≡◌, ◌≤◌, ◌<◌, ◌^◌, ℕ, List, ◌∷◌, ◌++◌, length, drop, Result, Ok, Err, ⊤}
-use Rattle.std.specs.Int.{w32, to_be_bytes}
+use Rattle.std.specs.Prelude.{◌≡◌, ◌≤◌, ℕ, List, length, drop, Result, Ok, Err, ⊤}
 use Rattle.tuple_schema.specs.declared.memory.Stop.{Stop}
 use Rattle.tuple_schema.specs.declared.memory.Stop.TheVariants.{Memory, Fault}
 use Rattle.tuple_schema.specs.declared.value.Value.{Value}
 use Rattle.tuple_schema.specs.declared.schema.Column.{Column}
 use Rattle.commit_disk.specs.declared.attaching.TableFault.{TableFault}
 use Rattle.commit_disk.specs.declared.attaching.TableFault.TheVariants.{Disk, NotATable, WorkflowDiffers}
+use Rattle.commit_disk.specs.declared.block_head.BlockHead.{BlockHead}
 use Rattle.commit_disk.specs.Table.{Stored}
+use Rattle.commit_disk.specs.BlockHeads.{count_in, len_in}
 use Rattle.row_codec.specs.Rows.{row_bytes}
 use Rattle.row_codec.specs.Decoding.{row_at}
-use Rattle.table_read.specs.declared.blocks.BlockHead.{BlockHead}
-use Rattle.table_read.specs.Rows.{or_place, next_gate}
+use Rattle.table_read.specs.Rows.{or_place}
 
 -- what the row at the front of the bytes tells: how many bytes it takes, or that there is none
 abbrev pub RowTells : List Column → ℕ → List ℕ → Result ℕ (Stop TableFault) → Type 0
@@ -23,19 +23,8 @@ RowTells columns place bytes (Err (Fault (NotATable at))) = (at ≡ place)
     × (or_place place (row_at columns bytes) ≡ Err place)
 RowTells columns place bytes (Err (Fault WorkflowDiffers)) = ⊥
 
--- behind this gate the file has this block, of rows or the end block, which ends by the last gate
-pub record HasBlock (file : List ℕ) (gate last : ℕ) (block : Stored) : Type 0 where
-  pub kind : ℕ
-  pub behind : List ℕ
-  pub spelled : drop gate file ≡ 1 ∷ kind ∷ to_be_bytes w32 block.count ++ to_be_bytes w32 (length block.bytes)
-      ++ block.bytes ++ behind
-  pub few : block.count < 2 ^ 32
-  pub short : length block.bytes < 2 ^ 32
-  pub within : next_gate gate block ≤ last
-
--- the head of a block was read, unless the disk failed
-abbrev pub HeadTells : Result BlockHead TableFault → Stored → Type 0
-HeadTells (Ok head) block = (head.count ≡ block.count) × (head.len ≡ length block.bytes)
-HeadTells (Err Disk) block = ⊤
-HeadTells (Err (NotATable at)) block = ⊥
-HeadTells (Err WorkflowDiffers) block = ⊥
+-- the head and these bytes were read of the block with this content
+pub record IsRead (head : BlockHead) (bytes : List ℕ) (content : Stored) : Type 0 where
+  pub counts : count_in head ≡ content.count
+  pub lens : len_in head ≡ length content.bytes
+  pub same : bytes ≡ content.bytes

@@ -37,3 +37,10 @@ abbrev pub NoDisk : TableFault → Type 0
 NoDisk Disk = ⊥
 NoDisk (NotATable place) = ⊤
 NoDisk WorkflowDiffers = ⊥
+
+-- memory was wanting, or the disk failed
+abbrev pub StopsOutside : Stop TableFault → Type 0
+StopsOutside Memory = ⊤
+StopsOutside (Fault Disk) = ⊤
+StopsOutside (Fault (NotATable place)) = ⊥
+StopsOutside (Fault WorkflowDiffers) = ⊥

@@ -2,6 +2,7 @@
 ghost use Rattle.std.specs.Prelude.{◌≡◌, ◌≤◌, ◌<◌, ◌^◌, ℕ, List, IsTrue};
 ghost use Rattle.outside.specs.Words.{OnlyReads};
 ghost use Rattle.tuple_schema.specs.Stops.{IfFault};
+ghost use Rattle.commit_disk.specs.Table.{row_blocks};
 ghost use Rattle.commit_disk.specs.Attach.{TellsOf};
 ghost use Rattle.table_read.specs.Rows.{table_rows};
 ghost use Rattle.table_read.specs.Places.{Verifies, wrong_place, IsCaused};
@@ -16,8 +17,8 @@ use tuple_schema::{Schema, Stop};
 ///
 /// NotATable names the place in the file of the first row of a block that doesn't decode within the
 /// block's rows, or of the first byte that is left behind as many rows as the block counts. On a disk
-/// that isn't honest it comes only where bytes that were read are so, or are no block that ends by the
-/// journal's gate; then it names the block's gate.
+/// that isn't honest it comes only where bytes that were read are so, or where no block stands at an
+/// open gate and ends by the journal's; then it names that gate.
 ///
 /// One block at a time is held in memory.
 pub fn verify<K: Disk>(
@@ -31,14 +32,14 @@ pub fn verify<K: Disk>(
     // Of the table that the journal tells of.
     ensures rows { IsTrue (K.state disk.old).honest → (text : List ℕ)
         → (table : TellsOf journal.now (K.state disk.old).file text)
-        → Verifies result (wrong_place (table_rows schema.now journal.now.first table.blocks)) }
+        → Verifies result (wrong_place (table_rows schema.now journal.now.first (row_blocks table.blocks))) }
     ensures cause { IfFault result (IsCaused (K.state disk.old).faults (K.state disk.new).faults) }
     ensures only_read { OnlyReads (K.state disk.old) (K.state disk.new) }
 {
     let mut buffer = Vec::new(alloc);
     let mut gate = journal.first();
     while gate < journal.gate() {
-        gate = verify_block(alloc, disk, gate, journal.gate(), schema, &mut buffer)?;
+        gate = verify_block(alloc, disk, journal, gate, schema, &mut buffer)?;
     }
     Ok(())
 }

@@ -2,9 +2,10 @@
 ghost use Rattle.std.specs.Prelude.{◌≡◌, ◌<◌, length, IfOk, true, false};
 ghost use Rattle.outside.specs.MemoryDisk.{file_of};
 
-use crate::verify;
+use crate::{next_block, verify};
 use commit_disk::{Attached, Block, Journal, TableFault, attach, make};
 use outside::{Disk, MemoryDisk};
+use row_batch::Batch;
 use std::alloc::Global;
 use std::test::Fail;
 use tuple_schema::{Column, ColumnKind, Schema, Stop, Text};
@@ -88,8 +89,8 @@ fn a_row_with_an_unknown_tag_is_the_wrong_place(rt: HostRuntime) -> Result<(), F
 #[test]
 fn a_wrong_count_is_found_where_the_rows_end(rt: HostRuntime) -> Result<(), Fail> {
     let alloc = rt.alloc();
-    // The counts end at 22 and 50. One too many is no row at the end, and one too few leaves bytes.
-    for (count, rows, at) in [(22, 3, 45), (22, 1, 36), (50, 2, 64), (50, 0, 55)] {
+    // The counts end at 22 and 50. One too many is no row at the end, and one too few leaves bytes; no block has none.
+    for (count, rows, at) in [(22, 3, 45), (22, 1, 36), (50, 2, 64), (50, 0, 45)] {
         assert_eq!(rt;
             verified_with(alloc, count, rows)?,
             Err(Stop::Fault(TableFault::NotATable { at }))
@@ -125,6 +126,60 @@ fn a_block_takes_two_reads(rt: HostRuntime) -> Result<(), Fail> {
     }
     disk.fail_at(5)?;
     assert_eq!(rt; verify(alloc, &mut disk, &journal, &schema), Ok(()));
+    Ok(())
+}
+
+#[test]
+fn blocks_are_read_one_after_the_other(rt: HostRuntime) -> Result<(), Fail> {
+    let alloc = rt.alloc();
+    let mut disk = MemoryDisk::new(alloc, &[])?;
+    let journal = two_blocks(alloc, &mut disk)?;
+    let mut batch = Batch::new(alloc, &one_int(alloc)?)?;
+    assert_eq!(rt;
+        next_block(alloc, &mut disk, &journal, 17, &mut batch),
+        Ok(Some(45))
+    );
+    assert_eq!(rt;
+        batch.bytes(),
+        b"\x01\0\0\0\0\0\0\0\x05\x01\0\0\0\0\0\0\0\x06".as_slice()
+    );
+    batch.clear();
+    assert_eq!(rt;
+        next_block(alloc, &mut disk, &journal, 45, &mut batch),
+        Ok(Some(64))
+    );
+    assert_eq!(rt;
+        batch.bytes(),
+        b"\x01\xff\xff\xff\xff\xff\xff\xff\xff".as_slice()
+    );
+    batch.clear();
+    assert_eq!(rt;
+        next_block(alloc, &mut disk, &journal, 64, &mut batch),
+        Ok(None)
+    );
+    assert_eq!(rt; batch.len(), 0);
+    Ok(())
+}
+
+#[test]
+fn the_end_block_has_no_rows(rt: HostRuntime) -> Result<(), Fail> {
+    let alloc = rt.alloc();
+    let mut disk = MemoryDisk::new(alloc, &[])?;
+    let mut journal = two_blocks(alloc, &mut disk)?;
+    journal.end(&mut disk)?;
+    let mut batch = Batch::new(alloc, &one_int(alloc)?)?;
+    assert_eq!(rt;
+        next_block(alloc, &mut disk, &journal, 64, &mut batch),
+        Ok(Some(74))
+    );
+    assert_eq!(rt; batch.len(), 0);
+    batch.clear();
+    // No block has its gate behind the first byte of another.
+    let at = 18;
+    assert_eq!(rt;
+        next_block(alloc, &mut disk, &journal, at, &mut batch),
+        Err(Stop::Fault(TableFault::NotATable { at }))
+    );
     Ok(())
 }
 

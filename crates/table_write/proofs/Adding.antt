@@ -7,9 +7,10 @@ use Rattle.outside.specs.Disk.{DiskState, Elapses, IsSettled, LeftBetween}
 use Rattle.outside.specs.Moments.{no_time, time_on, each_on, each_now, each_settled, at_end}
 use Rattle.tuple_schema.specs.declared.schema.Column.{Column}
 use Rattle.row_codec.specs.Decoding.{IsRowOf}
-use Rattle.commit_disk.specs.Table.{Stored, Holds, HoldsUpTo}
-use Rattle.commit_disk.specs.Journal.{JournalState, after_block, Commits}
-use Rattle.commit_disk.specs.Crashes.{LeavesWhole, LeavesEnd, Grows}
+use Rattle.commit_disk.specs.Table.{Stored, rows_block, end_block, table, Holds, HoldsUpTo}
+use Rattle.commit_disk.specs.Journal.{JournalState, after, Commits}
+use Rattle.commit_disk.specs.Crashes.{LeavesWhole, GrowsBy}
+use Rattle.commit_disk.specs.RowTables.{follows_table, commits_rows, leaves_rows, leaves_ended}
 use Rattle.commit_disk.specs.Growth.{grows_now, grows_on}
 use Rattle.table_write.specs.Cut.{together}
 use Rattle.table_write.specs.Rows.{stored_of}
@@ -69,8 +70,8 @@ module _ (columns : List Column) (blocks : List Rows) (before : JournalState) (o
 
     -- while the next block is added, whatever comes of it
     pub leaves_on : (block : Stored) (last : DiskState) → block ≡ stored_of rows
-        → (IsTrue new.honest → IsSettled new → LeavesWhole now.gate block new.file (LeftBetween new last))
-        → (IsTrue new.honest → IsSettled new → (text : List ℕ) (olds : List Stored) → HoldsUpTo now.gate new.file text olds false → Grows text new last)
+        → (IsTrue new.honest → IsSettled new → LeavesWhole now.gate (rows_block block) new.file (LeftBetween new last))
+        → (IsTrue new.honest → IsSettled new → GrowsBy now.gate (rows_block block) new last)
         → Elapses new last
         → OfTables (λ text olds. LeavesFronts text columns olds blocks old last)
     leaves_on block last is whole grows time is_honest settled text olds held =
@@ -85,13 +86,13 @@ module _ (columns : List Column) (blocks : List Rows) (before : JournalState) (o
               (λ _ image left_it. ⊎_elim
               (λ holds. front_at text columns olds blocks so_far.taken (rows ∷ rest) so_far.split so_far.added.of_columns false image (λ ended. absurd (true≢false (sym ended))) holds)
               (λ holds. front_at text columns olds blocks more rest more_split more_of_columns false image (λ ended. absurd (true≢false (sym ended))) (subst (λ (bs : List Stored). Holds image text bs false) longer holds))
-              (whole still settled_now text (with_blocks olds so_far.taken) here image left_it)) is_honest;
-          grows = grows_on text old new last is_honest so_far.elapses time was.grows (grows still settled_now text (with_blocks olds so_far.taken) here);
+              (leaves_rows _ block _ _ (whole still settled_now) text (with_blocks olds so_far.taken) here image left_it)) is_honest;
+          grows = grows_on text old new last is_honest so_far.elapses time was.grows (grows still settled_now text (table (with_blocks olds so_far.taken) false) (follows_table (with_blocks olds so_far.taken) (rows_block block)) here);
         }
 
     -- and where that failed
     pub stops_on : (block : Stored) (last : DiskState) → block ≡ stored_of rows
-        → (IsTrue new.honest → IsSettled new → LeavesWhole now.gate block new.file (LeftBetween new last)) → Elapses new last
+        → (IsTrue new.honest → IsSettled new → LeavesWhole now.gate (rows_block block) new.file (LeftBetween new last)) → Elapses new last
         → OfTables (λ text olds. StopsBetween text olds blocks last.may_leave)
     stops_on block last is whole time is_honest settled text olds held =
         let still = so_far.elapses.honest ∙ is_honest in
@@ -109,13 +110,13 @@ module _ (columns : List Column) (blocks : List Rows) (before : JournalState) (o
               (λ _ image left_it. ⊎_elim
               (λ holds. inl (subst (λ (bs : List Rows). Holds image text (with_blocks olds bs) false) (sym first) holds))
               (λ holds. inr (inl (omega (arith, sized, ap length so_far.split), subst (λ (bs : List Stored). Holds image text bs false) (longer ∙ ap (with_blocks olds) (sym next)) holds)))
-              (whole still (so_far.added.settled is_honest settled) text (with_blocks olds so_far.taken) (held_now is_honest text olds held) image left_it))
+              (leaves_rows _ block _ _ (whole still (so_far.added.settled is_honest settled)) text (with_blocks olds so_far.taken) (held_now is_honest text olds held) image left_it))
               still;
         }
 
     -- where it was added
-    pub one_more : (block : Stored) (later : JournalState) (last : DiskState) → block ≡ stored_of rows → later ≡ after_block now block
-        → (IsTrue new.honest → Commits now.gate later.gate block new.file last.file) → later.gate < last.size → (IsTrue new.honest → IsSettled last)
+    pub one_more : (block : Stored) (later : JournalState) (last : DiskState) → block ≡ stored_of rows → later ≡ after now (rows_block block)
+        → (IsTrue new.honest → Commits now.gate later.gate (rows_block block) new.file last.file) → later.gate < last.size → (IsTrue new.honest → IsSettled last)
         → now.gate + 11 + length block.bytes ≤ 2 ^ 48 → Elapses new last
         → OfTables (λ text olds. LeavesFronts text columns olds blocks old last)
         → SoFar rest later last
@@ -132,14 +133,14 @@ module _ (columns : List Column) (blocks : List Rows) (before : JournalState) (o
           ];
       added = record {
         of_columns = more_of_columns;
-        moved = moved ∙ ap (after_block now) is ∙ behind_more before now so_far.taken rows so_far.added.moved;
+        moved = moved ∙ ap (λ (b : Stored). after now (rows_block b)) is ∙ behind_more before now so_far.taken rows so_far.added.moved;
         place = place;
         settled = λ is_honest was. settled (so_far.elapses.honest ∙ is_honest);
         holds = λ is_honest text olds held.
             let on : Stored → List Stored = λ b. with_blocks olds so_far.taken ++ b ∷ [] in
             let longer : on block ≡ with_blocks olds more = ap on is ∙ sym (with_more olds so_far.taken rows) in
             subst (λ (bs : List Stored). HoldsUpTo later.gate last.file text bs false) longer
-            (commits (so_far.elapses.honest ∙ is_honest) text (with_blocks olds so_far.taken) (held_now is_honest text olds held));
+            (commits_rows _ _ block _ _ (commits (so_far.elapses.honest ∙ is_honest)) text (with_blocks olds so_far.taken) (held_now is_honest text olds held));
       };
       leaves = leaves;
       elapses = time_on old new last so_far.elapses time;
@@ -173,8 +174,8 @@ module _ (columns : List Column) (blocks : List Rows) (before : JournalState) (o
   module _ (now : JournalState) (new : DiskState) (added : HasAdded columns blocks before now old new) where
     -- while the end block is added behind all blocks, whatever comes of it
     pub leaves_end : (last : DiskState) → Elapses old new → OfTables (λ text olds. LeavesFronts text columns olds blocks old new)
-        → (IsTrue new.honest → IsSettled new → LeavesEnd now.gate new.file (LeftBetween new last))
-        → (IsTrue new.honest → IsSettled new → (text : List ℕ) (olds : List Stored) → HoldsUpTo now.gate new.file text olds false → Grows text new last)
+        → (IsTrue new.honest → IsSettled new → LeavesWhole now.gate end_block new.file (LeftBetween new last))
+        → (IsTrue new.honest → IsSettled new → GrowsBy now.gate end_block new last)
         → Elapses new last
         → OfTables (λ text olds. LeavesFronts text columns olds blocks old last)
     leaves_end last so_far leaves ends grows time is_honest settled text olds held =
@@ -188,13 +189,13 @@ module _ (columns : List Column) (blocks : List Rows) (before : JournalState) (o
               (λ _ image left_it. ⊎_elim
               (λ holds. front_at text columns olds blocks blocks [] all added.of_columns false image (λ _. refl) holds)
               (λ holds. front_at text columns olds blocks blocks [] all added.of_columns true image (λ _. refl) holds)
-              (ends still settled_now text (with_blocks olds blocks) here image left_it)) is_honest;
-          grows = grows_on text old new last is_honest so_far time was.grows (grows still settled_now text (with_blocks olds blocks) here);
+              (leaves_ended _ _ _ (ends still settled_now) text (with_blocks olds blocks) here image left_it)) is_honest;
+          grows = grows_on text old new last is_honest so_far time was.grows (grows still settled_now text (table (with_blocks olds blocks) false) (follows_table (with_blocks olds blocks) end_block) here);
         }
 
     -- and where that failed
     pub stops_at_end : (last : DiskState) → Elapses old new
-        → (IsTrue new.honest → IsSettled new → LeavesEnd now.gate new.file (LeftBetween new last)) → Elapses new last
+        → (IsTrue new.honest → IsSettled new → LeavesWhole now.gate end_block new.file (LeftBetween new last)) → Elapses new last
         → OfTables (λ text olds. StopsBetween text olds blocks last.may_leave)
     stops_at_end last so_far ends time is_honest settled text olds held =
         let still = so_far.honest ∙ is_honest in
@@ -206,7 +207,7 @@ module _ (columns : List Column) (blocks : List Rows) (before : JournalState) (o
               (λ _ image left_it. ⊎_elim
               (λ holds. inl (subst (λ (bs : List Rows). Holds image text (with_blocks olds bs) false) (sym all) holds))
               (λ holds. inr (inr (refl, holds)))
-              (ends still (added.settled is_honest settled) text (with_blocks olds blocks) (added.holds is_honest text olds held) image left_it))
+              (leaves_ended _ _ _ (ends still (added.settled is_honest settled)) text (with_blocks olds blocks) (added.holds is_honest text olds held) image left_it))
               still;
         }
 

@@ -8,8 +8,8 @@ use Rattle.tuple_schema.specs.declared.value.Value.{Value}
 use Rattle.tuple_schema.specs.declared.schema.Column.{Column}
 use Rattle.row_codec.specs.Rows.{rows_bytes}
 use Rattle.row_codec.specs.Decoding.{IsRowOf}
-use Rattle.commit_disk.specs.Table.{Stored, Holds}
-use Rattle.commit_disk.specs.Journal.{JournalState, after_block}
+use Rattle.commit_disk.specs.Table.{Stored, Holds, rows_block}
+use Rattle.commit_disk.specs.Journal.{JournalState, after}
 use Rattle.table_write.specs.Cut.{together}
 use Rattle.table_write.specs.Rows.{stored_of}
 use Rattle.table_write.specs.Adds.{with_blocks, IsFront, size_of, behind, next_block}
@@ -46,11 +46,11 @@ behind_none journal =
     (λ i. record journal { gate = same journal.gate i; count = same journal.count i })
 
 -- the journal behind one block more
-pub behind_more : (journal now : JournalState) (taken : List Rows) (rows : Rows) → now ≡ behind journal taken → after_block now (stored_of rows) ≡ behind journal (taken ++ rows ∷ [])
+pub behind_more : (journal now : JournalState) (taken : List Rows) (rows : Rows) → now ≡ behind journal taken → after now (rows_block (stored_of rows)) ≡ behind journal (taken ++ rows ∷ [])
 behind_more journal now taken rows is =
     let gate : journal.gate + size_of taken + 10 + length (rows_bytes rows) ≡ journal.gate + size_of (taken ++ rows ∷ []) = omega (arith, size_more taken rows) in
     let count : journal.count + sum_by length taken + length rows ≡ journal.count + sum_by length (taken ++ rows ∷ []) = omega (arith, count_more taken rows) in
-    ap (λ (j : JournalState). after_block j (stored_of rows)) is ∙ (λ i. record journal { gate = gate i; count = count i })
+    ap (λ (j : JournalState). after j (rows_block (stored_of rows))) is ∙ (λ i. record journal { gate = gate i; count = count i })
 
 -- where the gate is behind so many of the blocks, and which block follows
 module _ (gate : ℕ) (blocks taken : List Rows) where

@@ -5,9 +5,9 @@ use Rattle.std.proofs.lemmas.List.{append-nil}
 use Rattle.tuple_schema.specs.declared.schema.Column.{Column}
 use Rattle.tuple_schema.specs.Stops.{◌>>=◌}
 use Rattle.commit_disk.specs.declared.attaching.Attached.TheVariants.{NotMade, Made}
-use Rattle.commit_disk.specs.Table.{Stored, Holds, IsNotMade, HoldsOnce, front}
-use Rattle.commit_disk.specs.Journal.{JournalState}
-use Rattle.commit_disk.specs.Attach.{VerdictsAgree, rows_in}
+use Rattle.commit_disk.specs.Table.{Stored, Holds, IsNotMade, HoldsOnce}
+use Rattle.commit_disk.specs.RowTables.{holds_rows_once, journal_of, table_tells}
+use Rattle.commit_disk.specs.Attach.{VerdictsAgree}
 use Rattle.commit_disk.specs.Crashes.{HasBlocks, HasStill}
 use Rattle.table_read.specs.Rows.{block_rows, next_gate, table_rows}
 use Rattle.table_write.specs.Rows.{HoldsFirst, HoldsEnded}
@@ -42,9 +42,8 @@ module _ (once : HoldsOnce) (agree : VerdictsAgree) (text : List ℕ) (columns :
   -- a made table is no image that isn't made
   not_both : (image : List ℕ) (blocks : List Stored) (ended : Bool) → Holds image text blocks ended → IsNotMade image → ⊥
   not_both image blocks ended holds none =
-      let journal : JournalState = record { first = 16 + length text; gate = length (front text blocks ended); count = rows_in blocks; ended = ended; sound = true } in
-      let same : Ok NotMade ≡ Ok (Made journal) =
-      agree image text (Ok NotMade) (Ok (Made journal)) tt tt none (record { blocks = blocks; holds = record { holds = holds; at = refl }; first = refl; counts = refl; sound = refl }) in
+      let same : Ok NotMade ≡ Ok (Made (journal_of text blocks ended)) =
+      agree image text (Ok NotMade) (Ok (Made (journal_of text blocks ended))) tt tt none (table_tells image text blocks ended holds) in
       absurd cc
 
   has_itself : (image : List ℕ) (blocks : List Stored) (ended : Bool) → Holds image text blocks ended → HasBlocks text blocks image
@@ -63,7 +62,7 @@ module _ (once : HoldsOnce) (agree : VerdictsAgree) (text : List ℕ) (columns :
   still_first old image rows still (more, ended, inl was) (all, whole, inl is) =
       elim (still.blocks was.blocks (has_itself old was.blocks ended was.holds)) [
         | inl has ↦
-            let same : is.blocks ≡ was.blocks ++ has.0 = (once image text text is.blocks (was.blocks ++ has.0) whole has.1 is.holds has.2).1 in
+            let same : is.blocks ≡ was.blocks ++ has.0 = (holds_rows_once once image text text is.blocks (was.blocks ++ has.0) whole has.1 is.holds has.2).1 in
             let rest = rows_begin columns (16 + length text) was.blocks has.0 (rows ++ more) all was.decodes (sym (ap (table_rows columns (16 + length text)) same) ∙ is.decodes) in (
               more ++ rest.0,
               whole,

@@ -3,6 +3,7 @@ use Rattle.std.proofs.Common.{◌≡◌, ◌≤◌, ◌⊎◌, inl, inr, ℕ, �
 use Rattle.std.proofs.lemmas.List.{length-take-le, length-map}
 use Rattle.tuple_schema.specs.declared.value.Value.{Value}
 use Rattle.commit_disk.specs.Table.{Stored, Holds, HoldsOnce}
+use Rattle.commit_disk.specs.RowTables.{holds_rows_once}
 use Rattle.table_write.specs.Rows.{stored_of}
 use Rattle.table_write.specs.Adds.{with_blocks, IsStepOn, StopsBetween}
 
@@ -29,14 +30,14 @@ module _ (once : HoldsOnce) (text : List ℕ) (olds : List Stored) (blocks : Lis
       → (holds : ℕ) (ended : Bool) → holds ≤ length blocks → Holds image text (with_blocks olds (take holds blocks)) ended
       → (count ≤ holds) × (holds ≤ count + 1)
   step_count count within image (inl has) holds ended few is =
-      let same = same_count olds blocks count holds within few (once image text text _ _ false ended has is).1 in
+      let same = same_count olds blocks count holds within few (holds_rows_once once image text text _ _ false ended has is).1 in
       (omega (arith, same), omega (arith, same))
   step_count count within image (inr (inl more)) holds ended few is =
-      let same = same_count olds blocks (count + 1) holds (omega (arith, more.0)) few (once image text text _ _ false ended more.1 is).1 in
+      let same = same_count olds blocks (count + 1) holds (omega (arith, more.0)) few (holds_rows_once once image text text _ _ false ended more.1 is).1 in
       (omega (arith, same), omega (arith, same))
   step_count count within image (inr (inr end)) holds ended few is =
       let all : length olds + length blocks ≡ length olds + length (take holds blocks) =
-      sym (count_of olds blocks) ∙ ap length (once image text text _ _ true ended end.1 is).1 ∙ count_of olds (take holds blocks) in
+      sym (count_of olds blocks) ∙ ap length (holds_rows_once once image text text _ _ true ended end.1 is).1 ∙ count_of olds (take holds blocks) in
       let taken = length-take-le holds blocks few in
       (omega (arith, all, taken, end.0), omega (arith, all, taken, end.0))
 

@@ -3,9 +3,9 @@ ghost use Rattle.std.specs.Prelude.{◌≡◌, ◌≤◌, ◌<◌, ◌+◌, ◌^
 ghost use Rattle.outside.specs.Words.{Rose, Elapses, IsSettled, LeftBetween};
 ghost use Rattle.tuple_schema.specs.Schemas.{Fits};
 ghost use Rattle.row_codec.specs.Decoding.{IsRowOf};
-ghost use Rattle.commit_disk.specs.Table.{Stored, HoldsUpTo};
-ghost use Rattle.commit_disk.specs.Journal.{after_block, after_end, Commits};
-ghost use Rattle.commit_disk.specs.Crashes.{LeavesWhole, Grows};
+ghost use Rattle.commit_disk.specs.Table.{Stored, HoldsUpTo, rows_block, end_block};
+ghost use Rattle.commit_disk.specs.Journal.{after, Commits};
+ghost use Rattle.commit_disk.specs.Crashes.{LeavesWhole, GrowsBy};
 ghost use Rattle.table_write.specs.declared.writer.WriteFault.TheVariants as fault;
 ghost use Rattle.table_write.specs.Cut.{cut};
 ghost use Rattle.table_write.specs.Adds.{with_blocks, LeavesFronts, StopsBetween, behind, HasRoom, AllHaveRoom, HasAdded, IsFilled};
@@ -83,7 +83,7 @@ impl Writer {
         requires few { batch ≤ MAX_ROWS }
 
         ensures of_columns { OnOk result (All (IsRowOf schema.now) rows.now) }
-        ensures moved { OnOk result (journal.new ≡ after_end (behind journal.old (cut batch rows.now))) }
+        ensures moved { OnOk result (journal.new ≡ after (behind journal.old (cut batch rows.now)) end_block) }
         ensures count { OnOk result (journal.new.count ≡ journal.old.count + length rows.now) }
         ensures done { OnOk result (IsTrue (K.state disk.old).honest → (text : List ℕ) (olds : List Stored)
             → HoldsUpTo journal.old.gate (K.state disk.old).file text olds false
@@ -172,18 +172,17 @@ fn commit_block<K: Disk>(
     requires some { 1 ≤ block.now.count }
     requires place { journal.old.gate < (K.state disk.old).size }
 
-    ensures moved { OnOk result (journal.new ≡ after_block journal.old block.now) }
+    ensures moved { OnOk result (journal.new ≡ after journal.old (rows_block block.now)) }
     ensures done { OnOk result (IsTrue (K.state disk.old).honest
-        → Commits journal.old.gate journal.new.gate block.now (K.state disk.old).file (K.state disk.new).file) }
+        → Commits journal.old.gate journal.new.gate (rows_block block.now) (K.state disk.old).file (K.state disk.new).file) }
     ensures size { OnOk result (journal.new.gate < (K.state disk.new).size) }
     ensures settled { OnOk result (IsTrue (K.state disk.old).honest → IsSettled (K.state disk.new)) }
 
     ensures any_moment { IsTrue (K.state disk.old).honest → IsSettled (K.state disk.old)
-        → LeavesWhole journal.old.gate block.now (K.state disk.old).file
+        → LeavesWhole journal.old.gate (rows_block block.now) (K.state disk.old).file
         (LeftBetween (K.state disk.old) (K.state disk.new)) }
     ensures grows { IsTrue (K.state disk.old).honest → IsSettled (K.state disk.old)
-        → (text : List ℕ) (blocks : List Stored) → HoldsUpTo journal.old.gate (K.state disk.old).file text blocks false
-        → Grows text (K.state disk.old) (K.state disk.new) }
+        → GrowsBy journal.old.gate (rows_block block.now) (K.state disk.old) (K.state disk.new) }
     ensures elapses { Elapses (K.state disk.old) (K.state disk.new) }
 
     ensures fits { OnOk result (journal.old.gate + 11 + length block.now.bytes ≤ MAX_SIZE) }

@@ -31,7 +31,7 @@ returns-then-not-branch-clause-tells g c = λ honest sized.
     let two = c.read_gates.ensures.read.keeps.file honest_one ∙ one in
     let told = table_told file _ _ c.in-Some.len c.in_ok-journal.journal one two head (c.in_ok-journal.ensures.tells honest_one (sized ∙ ap length (sym one))) in
     let same = c.in_ok-has_text.ensures.same (c.read_gates.ensures.read.elapses.honest ∙ honest_one) told.1 in
-    (head.0, (λ is. iff_false same c.if-not-branch.true (told.2 ∙ is)), (c.in_ok-journal.journal.gate, (told.0.blocks, c.in_ok-journal.journal.ended, told.0.holds)))
+    (head.0, (λ is. iff_false same c.if-not-branch.true (told.2 ∙ is)), (c.in_ok-journal.journal.gate, (told.0.blocks, told.0.holds)))
 
 pub returns-clause-tells : goal.returns-clause-tells
 returns-clause-tells g c = λ honest sized.

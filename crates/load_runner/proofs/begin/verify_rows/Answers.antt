@@ -1,5 +1,7 @@
 use Rattle.std.proofs.Common.{◌≡◌, ◌∙◌, sym}
 use Rattle.tuple_schema.specs.declared.memory.Stop.TheVariants as stop
+use Rattle.commit_disk.specs.Table.{row_blocks}
+use Rattle.commit_disk.specs.RowTables.{told_rows}
 use Rattle.load_runner.specs.declared.fault.LoadFault.TheVariants as fault
 use Rattle.load_runner.proofs.Readings.{all_read, wrong_read, stopped_at}
 use Rattle.load_runner.proofs.begin.verify_rows.Goals as goal
@@ -13,8 +15,8 @@ returns-in-Err-clause-wrong g c = λ place is honest text table.
     let stopped = stopped_at c.in-Err.stop place (sym c.of_table.ensures ∙ answer) in
     let verified = rw stopped at (c.in-Err.ensures.rows honest text table) in
     record {
-      blocks = table.blocks;
+      blocks = row_blocks table.blocks;
       ended = c.args.journal.now.ended;
-      holds = table.holds.holds;
+      holds = (told_rows c.args.journal.now (g.K.Disk.state c.args.disk.now).file text table).holds;
       wrong = rw table.first at (wrong_read _ place verified);
     }

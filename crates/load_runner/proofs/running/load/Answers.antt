@@ -109,3 +109,8 @@ returns-then-is_ended g c = record {
       subst (λ (file : List ℕ). HoldsRows file text columns start.committed true) ((c.in-Ok.ensures.settled).file honest) here in
       (start.committed, there, c.ended_report.ensures ∙ ap ended_report (c.count_of.ensures ∙ start.count)));
 }
+
+pub resume-requires-clause-start : goal.resume-requires-clause-start
+resume-requires-clause-start g c = λ honest.
+    let start = begun c.in-Ok.found _ c.args.text.now _ (c.in-Ok.ensures.found (sym c.begin.ensures.elapses.honest ∙ honest)) in
+    (start.olds, start.at (sym c.if-is_ended.ensures))

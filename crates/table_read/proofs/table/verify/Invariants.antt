@@ -1,8 +1,5 @@
-use Rattle.std.proofs.Common.{◌≡◌, ◌≤◌, ◌-◌, ℕ, List, IsTrue}
-use Rattle.commit_disk.specs.Table.{Stored}
+use Rattle.std.proofs.Common.{◌≤◌, ◌-◌, ℕ, List, IsTrue}
 use Rattle.commit_disk.specs.Attach.{TellsOf}
-use Rattle.table_read.specs.Rows.{table_rows}
-use Rattle.table_read.specs.Places.{wrong_place}
 use Rattle.outside.specs.Disk.{OnlyReads}
 use Rattle.table_read.proofs.Standing.{StandFrom}
 use Rattle.table_read.proofs.table.verify.Given as goal
@@ -12,8 +9,7 @@ invariant-loop-gate g l = record {
   read : OnlyReads (g.K.Disk.state l.fn.disk) (g.K.Disk.state l.disk);
   within : l.gate ≤ l.journal.gate;
   rows : IsTrue (g.K.Disk.state l.fn.disk).honest → (text : List ℕ) → (table : TellsOf l.journal (g.K.Disk.state l.fn.disk).file text)
-      → (rest : List Stored) × StandFrom (g.K.Disk.state l.fn.disk).file l.gate l.journal.gate rest
-      × (wrong_place (table_rows l.schema l.gate rest) ≡ wrong_place (table_rows l.schema l.journal.first table.blocks));
+      → StandFrom l.schema text table.blocks l.journal.first l.gate;
 }
 
 abbrev pub decreases-loop-gate : goal.decreases-loop-gate

@@ -4,6 +4,7 @@ use Rattle.std.proofs.lemmas.List.Concat.{length-flat_map}
 use Rattle.std.specs.List.{sum_by}
 use Rattle.row_codec.specs.Decoding.{IsRowOf}
 use Rattle.commit_disk.specs.Journal.{JournalState}
+use Rattle.commit_disk.specs.RowTables.{commits_end}
 use Rattle.table_write.specs.Cut.{cut}
 use Rattle.table_write.proofs.Cuts.{cut_is}
 use Rattle.table_write.proofs.Adding.{leaves_end, stops_at_end, filled_at_end}
@@ -53,3 +54,8 @@ returns-clause-count g c =
     let ended = ap (λ (j : JournalState). j.count) c.in_ok-end.ensures.moved in
     let added = ap (λ (j : JournalState). j.count) c.in_ok-append_blocks.ensures.added.moved in
     omega (arith, all, ended, added)
+
+pub returns-clause-done : goal.returns-clause-done
+returns-clause-done g c = λ honest text olds held.
+    let blocks = c.in_ok-append_blocks.ensures in
+    commits_end _ _ _ _ (c.in_ok-end.ensures.done (blocks.elapses.honest ∙ honest)) text _ (blocks.added.holds honest text olds held)

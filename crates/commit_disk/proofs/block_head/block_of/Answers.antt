@@ -1,9 +1,8 @@
 use Rattle.std.proofs.Common.{◌∙◌, ℕ, sym, ap, arith}
 use Rattle.std.specs.Int.{w32, to_be_bytes}
-use Rattle.commit_disk.specs.Table.{end_block}
 use Rattle.commit_disk.proofs.Frames.{no_block, spells_head}
-use Rattle.commit_disk.proofs.attaching.block_of.Goals as goal
-use Rattle.commit_disk.proofs.attaching.block_of.Goals.{then-room-lt11-via-then-room-lt11, then-room-lt11-via-else-room-lt11+then-room-len}
+use Rattle.commit_disk.proofs.block_head.block_of.Goals as goal
+use Rattle.commit_disk.proofs.block_head.block_of.Goals.{then-room-lt11-via-then-room-lt11, then-room-lt11-via-else-room-lt11+then-room-len}
 
 pub returns-then-room-lt11 : goal.returns-then-room-lt11
 returns-then-room-lt11 c = elim c.then-room-lt11.branch [
@@ -17,16 +16,14 @@ returns-then-room-lt11 c = elim c.then-room-lt11.branch [
 
 pub returns-in-0 : goal.returns-in-0
 returns-in-0 c = record {
-  some = omega arith;
-  few = omega arith;
-  short = omega arith;
+  allowed = (omega arith, omega arith, omega arith);
   fits = omega arith;
   spelled = spells_head c.args.head.now (omega arith) 0 _ _ (omega arith) c.number_at-count.ensures.bytes c.number_at-len.ensures.bytes;
 }
 
 pub returns-in-1 : goal.returns-in-1
-unfolding end_block
 returns-in-1 c = record {
+  allowed = tt;
   fits = omega arith;
   spelled = spells_head c.args.head.now (omega arith) 1 0 0 (omega arith) (ap (λ (n : ℕ). to_be_bytes w32 n) (sym c.if-count-eq0.true) ∙ c.number_at-count.ensures.bytes) (ap (λ (n : ℕ). to_be_bytes w32 n) (sym c.if-len-eq0.true) ∙ c.number_at-len.ensures.bytes);
 }
