@@ -44,9 +44,9 @@ module _ (command : Asked) (depot still : DepotState) (disk : DiskState) (out : 
   refused why.FlowMissing tells cause = refused_flow why.FlowMissing refl tells
   refused (why.FlowTooLong size) tells cause = refused_flow (why.FlowTooLong size) refl tells
   refused (why.Flow fault) tells cause = refused_flow (why.Flow fault) refl tells
-  refused (why.Schema name fault) tells cause = refused_flow (why.Schema name fault) refl tells
+  refused (why.Schema fault) tells cause = refused_flow (why.Schema fault) refl tells
   refused why.NotBuilt tells cause = refused_flow why.NotBuilt refl tells
-  refused (why.Source name fault) tells cause = absurd cause
+  refused (why.Source fault) tells cause = absurd cause
   refused (why.NotATable place) tells cause = absurd cause
   refused why.WorkflowDiffers tells cause = absurd cause
   refused why.Full tells cause = absurd cause
