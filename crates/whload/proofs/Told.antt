@@ -11,7 +11,7 @@ use Rattle.whload.specs.Texts.{refusal_line}
 use Rattle.whload.specs.Verdict.{known_names}
 
 -- where the flow is asked for, only a refused one is told by names
-pub told_alike : {X : Type 0} (depot : Type 0) (reason : Reason) (names known : List (List ℕ)) → IsAsked {X = X} depot (Err reason) → (RefusesFlow reason → names ≡ known) → refusal_line names reason ≡ refusal_line known reason
+pub told_alike : (depot : Type 0) (reason : Reason) (names known : List (List ℕ)) → IsAsked {X = Unit {0}} depot (Err reason) → (RefusesFlow reason → names ≡ known) → refusal_line names reason ≡ refusal_line known reason
 told_alike depot why.Usage names known cause same = refl
 told_alike depot why.FlowMissing names known cause same = refl
 told_alike depot (why.FlowTooLong size) names known cause same = refl
