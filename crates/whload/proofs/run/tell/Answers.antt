@@ -12,7 +12,7 @@ returns-in-Ok-clause-notes g c = λ told line.
     (noted told c.args.refusal old new line
     (subst (λ (text : List ℕ). GainsLine text old new) (c.as_bytes.ensures ∙ c.in-Ok.ensures.text) c.note.ensures.gains))
 
-pub returns-in-Err-clause-notes : goal.returns-clause-notes
+pub returns-in-Err-clause-notes : goal.returns-in-Err-clause-notes
 returns-in-Err-clause-notes g c = λ told line.
     let old = g.N.Sink.state c.args.notes.now in
     let new = g.N.Sink.state c.note-in-Err.new.notes in
