@@ -66,7 +66,7 @@ done : (job : jobs.Job) (depot still : DepotState) (disk now : DiskState) (files
     → (ended : jobs.Answer) (out then : SinkState) → IsTrue disk.honest → IsSafe job.text (columns_of job) (has_fixed_root job.flow.nodes) whole [] disk.file
     → Loads job depot still disk now ended → promises.Tells job.flow.nodes ended out then None → HoldsAll job.text (columns_of job) (has_fixed_root job.flow.nodes) whole now.file
 done job depot still disk now files told whole means (Ok report) out then is safe load tells = load.completes files told whole means is safe now.file (now.reads_image (load.elapses.honest ∙ is))
-done job depot still disk now files told whole means (Err stop) out then is safe load tells = absurd tells.0
+done job depot still disk now files told whole means (Err stop) out then is safe load tells = absurd (let e = tells.0 in cc)
 
 -- a run that is done over a table that stands for the meaning leaves all of it
 pub done_is_whole : (words : List (List ℕ)) (files : Files) (job : jobs.Job) (old new : Devices) → Ends words old new None → old.depot.files ≡ Some files → AsksFor words files (loads job)

@@ -1,15 +1,15 @@
 -- How a command begins, of what was found of its flow.
-use Rattle.std.proofs.Common.{◌≡◌, ◌≤◌, ◌+◌, inl, inr, List, ℕ, Some, Result, Ok, Err, codes, refl, sym}
+use Rattle.std.proofs.Common.{◌≡◌, ◌≤◌, ◌+◌, inl, inr, List, ℕ, Option, Some, Result, Ok, Err, codes, refl, sym}
 use Rattle.outside.specs.Words.{Rose, DiskState, Files, file_at, DepotState, Consults, SinkState}
 use Rattle.outside.specs.Moments.{no_read}
 use Rattle.outside.specs.Whole.{size_of}
 use Rattle.whload.specs.declared.reason.Reason.{Reason}
 use Rattle.whload.specs.declared.reason.Reason.TheVariants as why
-use Rattle.whload.specs.Commands.{Asked, load}
+use Rattle.whload.specs.Commands.{Asked, load, loads}
 use Rattle.whload.specs.Reasons.{RefusesFlow, IsAsked as IsReadingReason}
-use Rattle.whload.specs.Promises.{Devices, devices, Untouched, Fits, Runs, NotBegun, Begins}
+use Rattle.whload.specs.Promises.{Devices, devices, Untouched, Fits, LoadsAndTells, Runs, NotBegun, Begins}
 use Rattle.whload.specs.Verdict.{FlowText, flow_of_files, asked_over}
-use Rattle.whload.proofs.Verdicts.{asked_refused}
+use Rattle.whload.proofs.Verdicts.{asked_refused, asked_read}
 
 -- nothing was asked of the devices
 pub untouched : (devices : Devices) → Untouched devices devices
@@ -44,9 +44,9 @@ module _ (command : Asked) (depot still : DepotState) (disk : DiskState) (out : 
   refused why.FlowMissing tells cause = refused_flow why.FlowMissing refl tells
   refused (why.FlowTooLong size) tells cause = refused_flow (why.FlowTooLong size) refl tells
   refused (why.Flow fault) tells cause = refused_flow (why.Flow fault) refl tells
-  refused (why.Schema name fault) tells cause = refused_flow (why.Schema name fault) refl tells
+  refused (why.Schema fault) tells cause = refused_flow (why.Schema fault) refl tells
   refused why.NotBuilt tells cause = refused_flow why.NotBuilt refl tells
-  refused (why.Source name fault) tells cause = absurd cause
+  refused (why.Source fault) tells cause = absurd cause
   refused (why.NotATable place) tells cause = absurd cause
   refused why.WorkflowDiffers tells cause = absurd cause
   refused why.Full tells cause = absurd cause
@@ -54,3 +54,16 @@ module _ (command : Asked) (depot still : DepotState) (disk : DiskState) (out : 
   refused why.Disk tells cause = absurd cause
   refused why.Sink tells cause = absurd cause
   refused why.Memory tells cause = inr (record { consults = consults; served = served; untouched = untouched (devices still disk out); outside = inl refl })
+
+-- the flow was read, and then its load was made
+pub loaded : (batch : ℕ) (flow : FlowText) (old : Devices) (found : DepotState) (new : Devices) (answer : Option Reason) → Consults old.depot found → ServesFlow old.depot found
+    → ((files : Files) → old.depot.files ≡ Some files → flow_of_files files ≡ Ok flow)
+    → LoadsAndTells (record { flow = flow.flow; text = flow.text; batch = batch }) (record old { depot = found }) new answer → Begins (load batch) old new answer
+loaded batch flow old found new answer consults served tells did = inl (record {
+  found = found;
+  consults = consults;
+  served = served;
+  asked = Ok (loads (record { flow = flow.flow; text = flow.text; batch = batch }));
+  is_asked = record { is = λ files told. sym (asked_read (load batch) files flow (tells files told)); fits = refl };
+  does = did;
+})

@@ -1,4 +1,5 @@
-pub mod NodeNames
+pub mod Names
+pub mod Told
 pub mod Verdicts
 pub mod Batches
 pub mod Begun

@@ -2,18 +2,32 @@
 use Rattle.std.proofs.Common.{◌≡◌, ℕ, List, Result, Ok, Err, codes, refl}
 use Rattle.outside.specs.Depot.{Files, file_at}
 use Rattle.outside.specs.Whole.{found_in}
+use Rattle.workflow_file.specs.declared.raw.RawFlow.{RawFlow}
 use Rattle.flow_types.specs.Flows.{TypedFlow}
 use Rattle.whload.specs.declared.reason.Reason.{Reason}
 use Rattle.whload.specs.Commands.{Asked, job_for}
-use Rattle.whload.specs.Verdict.{FlowText, text_in, flow_in, flow_of_text, flow_of_files, asked_over}
+use Rattle.whload.specs.Verdict.{FlowText, text_in, raw_in, typed_of, flow_of_text, flow_of_files, raw_of_files, asked_over}
 
-pub flow_refused : (text : List ℕ) (e : Reason) → flow_in text ≡ Err e → flow_of_text text ≡ Err e
+pub not_parsed : (text : List ℕ) (e : Reason) → raw_in text ≡ Err e → flow_of_text text ≡ Err e
 unfolding flow_of_text
-flow_refused text e is = rw is refl
+not_parsed text e is = rw is refl
 
-pub flow_read : (text : List ℕ) (flow : TypedFlow) → flow_in text ≡ Ok flow → flow_of_text text ≡ Ok (record { text = text; flow = flow })
-unfolding flow_of_text
-flow_read text flow is = rw is refl
+module _ (text : List ℕ) (raw : RawFlow) (parsed : raw_in text ≡ Ok raw) where
+  pub not_typed : (e : Reason) → typed_of raw ≡ Err e → flow_of_text text ≡ Err e
+  unfolding flow_of_text
+  not_typed e is = rw (parsed, is) refl
+
+  pub flow_read : (flow : TypedFlow) → typed_of raw ≡ Ok flow → flow_of_text text ≡ Ok (record { text = text; flow = flow })
+  unfolding flow_of_text
+  flow_read flow is = rw (parsed, is) refl
+
+pub raw_refused : (files : Files) (e : Reason) → text_in (found_in 65536 (file_at files (codes "flow.toml"))) ≡ Err e → raw_of_files files ≡ Err e
+unfolding raw_of_files
+raw_refused files e is = rw is refl
+
+pub raw_read : (files : Files) (text : List ℕ) → text_in (found_in 65536 (file_at files (codes "flow.toml"))) ≡ Ok text → raw_of_files files ≡ raw_in text
+unfolding raw_of_files
+raw_read files text is = rw is refl
 
 pub text_refused : (files : Files) (e : Reason) → text_in (found_in 65536 (file_at files (codes "flow.toml"))) ≡ Err e → flow_of_files files ≡ Err e
 unfolding flow_of_files

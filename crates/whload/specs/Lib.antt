@@ -5,6 +5,7 @@ pub mod Texts
 pub mod Stops
 pub mod Lines
 pub mod Verdict
+pub mod Refusals
 pub mod Found
 pub mod Promises
 pub mod Answers

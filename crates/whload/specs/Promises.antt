@@ -3,14 +3,12 @@ use Rattle.std.specs.Prelude.{◌≡◌, ◌⊎◌, ◌≤◌, ◌+◌, ℕ, Lis
 use Rattle.outside.specs.Words.{Rose, DiskState, Elapses, OnlyReads, Files, file_at, DepotState, Consults, SinkState, Gains, GainsFront}
 use Rattle.outside.specs.Whole.{size_of}
 use Rattle.flow_types.specs.declared.node.Node.{Node}
-use Rattle.tuple_schema.specs.declared.memory.Stop.{Stop}
-use Rattle.load_runner.specs.declared.fault.LoadFault.{LoadFault}
 use Rattle.load_runner.specs.Jobs as jobs
 use Rattle.load_runner.specs.Loads.{Loads}
 use Rattle.whload.specs.declared.reason.Reason.{Reason}
 use Rattle.whload.specs.declared.reason.Reason.TheVariants as why
 use Rattle.whload.specs.Reasons.{RefusesFlow}
-use Rattle.whload.specs.Stops.{IsReason}
+use Rattle.whload.specs.Stops.{reason_of_stop}
 use Rattle.whload.specs.Texts.{report_text, IsMade}
 use Rattle.whload.specs.Commands.{Asked, load, Job, loads, asked_in}
 use Rattle.whload.specs.Verdict.{asked_over}
@@ -32,18 +30,13 @@ pub record Untouched (old new : Devices) : Type 0 where
 
 -- How each command is done.
 
--- the answer is the reason of a stop
-abbrev pub IsSomeReason : List Node → Stop LoadFault → Option Reason → Type 0
-IsSomeReason nodes stop None = ⊥
-IsSomeReason nodes stop (Some reason) = IsReason nodes stop reason
-
 -- how a load that answered so is told: its report stands in the output, unless that failed or its text found no memory
 abbrev pub Tells : List Node → jobs.Answer → SinkState → SinkState → Option Reason → Type 0
 Tells nodes (Ok report) out now answer =
     ((answer ≡ None) × Gains (report_text nodes report) out now)
     ⊎ ((answer ≡ Some why.Sink) × GainsFront (report_text nodes report) out now × Rose out.faults now.faults)
     ⊎ ((answer ≡ Some why.Memory) × (now ≡ out))
-Tells nodes (Err stop) out now answer = IsSomeReason nodes stop answer × (now ≡ out)
+Tells nodes (Err stop) out now answer = (answer ≡ Some (reason_of_stop stop)) × (now ≡ out)
 
 -- a load was made, and what it answered is told
 pub record LoadsAndTells (job : jobs.Job) (old new : Devices) (answer : Option Reason) : Type 0 where

@@ -1,5 +1,5 @@
 -- The texts that the program writes.
-use Rattle.std.specs.Prelude.{ℕ, List, [], ◌∷◌, ◌++◌, ◌==◌, codes, if◌then◌else◌, ⊤}
+use Rattle.std.specs.Prelude.{ℕ, List, [], ◌∷◌, ◌++◌, ◌==◌, codes, if◌then◌else◌, Option, Some, None, ⊤}
 use Rattle.std.specs.List.{flat_map}
 use Rattle.std.specs.Fmt.{decimal}
 use Rattle.workflow_file.specs.declared.fault.Place.{Place}
@@ -11,6 +11,7 @@ use Rattle.flow_types.specs.declared.fault.SchemaCause.{SchemaCause}
 use Rattle.flow_types.specs.declared.fault.SchemaCause.TheVariants as cause
 use Rattle.flow_types.specs.declared.fault.NodeId.{NodeId}
 use Rattle.flow_types.specs.declared.node.Node.{Node}
+use Rattle.flow_types.specs.Names.{name_at}
 use Rattle.row_codec.specs.declared.fields.FieldFault.{FieldFault}
 use Rattle.row_codec.specs.declared.fields.FieldFault.TheVariants as field
 use Rattle.extractors.specs.declared.fault.CsvFault.{CsvFault}
@@ -90,33 +91,38 @@ csv_text (csv.BadRow row column cause) = codes " row " ++ (decimal row
 abbrev pub source_text : SourceWhat → List ℕ
 source_text (what.Csv fault) = csv_text fault
 
--- why a command wasn't done, in words
-abbrev pub reason_text : Reason → List ℕ
-reason_text why.Usage =
+-- the name of the node that a fault is of, by the names of all nodes, or `table`
+abbrev pub fault_name : List (List ℕ) → Option NodeId → List ℕ
+fault_name names None = codes "table"
+fault_name names (Some id) = name_at names id.0
+
+-- why a command wasn't done, in words; a node is told by its name
+abbrev pub reason_text : List (List ℕ) → Reason → List ℕ
+reason_text names why.Usage =
     codes "usage: whload load DIR [--batch N], explain DIR, check DIR, dump DIR, pack DIR SOURCE, drill N"
-reason_text why.FlowMissing = codes "flow.toml is missing"
-reason_text (why.FlowTooLong size) = codes "flow.toml has " ++ decimal size ++ codes " bytes"
-reason_text (why.Flow fault) = fault_text fault
-reason_text (why.Schema name fault) = name ++ (codes ": " ++ cause_text fault.cause)
-reason_text why.NotBuilt = codes "flow.toml is not built yet"
-reason_text (why.Source name fault) = codes "source " ++ (name ++ source_text fault.what)
-reason_text (why.NotATable place) = codes "table.whl is not a table at " ++ decimal place
-reason_text why.WorkflowDiffers = codes "table.whl was made by another workflow"
-reason_text why.Full = codes "table.whl is full"
-reason_text why.Depot = codes "a source file failed"
-reason_text why.Disk = codes "the table file failed"
-reason_text why.Sink = codes "the output failed"
-reason_text why.Memory = codes "out of memory"
+reason_text names why.FlowMissing = codes "flow.toml is missing"
+reason_text names (why.FlowTooLong size) = codes "flow.toml has " ++ decimal size ++ codes " bytes"
+reason_text names (why.Flow fault) = fault_text fault
+reason_text names (why.Schema fault) = fault_name names fault.node ++ (codes ": " ++ cause_text fault.cause)
+reason_text names why.NotBuilt = codes "flow.toml is not built yet"
+reason_text names (why.Source fault) = codes "source " ++ (name_at names fault.source.0 ++ source_text fault.what)
+reason_text names (why.NotATable place) = codes "table.whl is not a table at " ++ decimal place
+reason_text names why.WorkflowDiffers = codes "table.whl was made by another workflow"
+reason_text names why.Full = codes "table.whl is full"
+reason_text names why.Depot = codes "a source file failed"
+reason_text names why.Disk = codes "the table file failed"
+reason_text names why.Sink = codes "the output failed"
+reason_text names why.Memory = codes "out of memory"
 
 -- the one line on standard error
-abbrev pub refusal_line : Reason → List ℕ
-refusal_line reason = codes "whload: " ++ reason_text reason ++ codes "\n"
+abbrev pub refusal_line : List (List ℕ) → Reason → List ℕ
+refusal_line names reason = codes "whload: " ++ reason_text names reason ++ codes "\n"
 
 -- its line tells a place, a size or a name, and is made, which may find no memory
 abbrev pub IsMade : Reason → Type 0
 IsMade (why.FlowTooLong size) = ⊤
 IsMade (why.Flow fault) = ⊤
 IsMade (why.NotATable place) = ⊤
-IsMade (why.Schema name fault) = ⊤
-IsMade (why.Source name fault) = ⊤
+IsMade (why.Schema fault) = ⊤
+IsMade (why.Source fault) = ⊤
 IsMade reason = ⊥

@@ -1,22 +1,21 @@
 // Carrying out a command.
-ghost use Rattle.std.specs.Prelude.{◌≡◌, ◌≤◌, length, IfOk};
+ghost use Rattle.std.specs.Prelude.{◌≡◌, ◌≤◌, length, IfErr};
 ghost use Rattle.whload.specs.Answers.{answer_of};
 ghost use Rattle.whload.specs.Commands.{IsWithin, load};
 ghost use Rattle.whload.specs.Found.{asked_of};
 ghost use Rattle.whload.specs.Promises.{Begins, LoadsAndTells, devices};
-ghost use Rattle.whload.specs.Stops.{IsReason};
-ghost use Rattle.whload.specs.Texts.{name_of};
+ghost use Rattle.whload.specs.Refusals.{in_reasons, HasLineOver};
+ghost use Rattle.whload.specs.Stops.{reason_of_stop};
 
 use crate::Reason;
 use crate::find::{Found, find};
-use crate::flow::short_text;
+use crate::refusal::Refusal;
 use crate::texts::report_text;
 use crate::words::Command;
-use flow_types::{Flow, Node, NodeId};
 use load_runner::LoadFault;
 use outside::{Depot, Disk, Sink, put_all};
 use std::alloc::Global;
-use tuple_schema::{Memory, Stop, Text};
+use tuple_schema::Stop;
 
 /// Carries out the command, and says why where it isn't done.
 pub fn carry_out<D: Depot, K: Disk, S: Sink>(
@@ -25,17 +24,24 @@ pub fn carry_out<D: Depot, K: Disk, S: Sink>(
     depot: &mut D,
     disk: &mut K,
     out: &mut S,
-) -> Result<(), Reason>
+) -> Result<(), Refusal>
     requires within { IsWithin (asked_of command) }
     ensures begins { Begins (asked_of command)
         (devices (D.state depot.old) (K.state disk.old) (S.state out.old))
-        (devices (D.state depot.new) (K.state disk.new) (S.state out.new)) (answer_of result) }
+        (devices (D.state depot.new) (K.state disk.new) (S.state out.new)) (answer_of (in_reasons result)) }
+    ensures line { IfErr result (HasLineOver (D.state depot.old).files) }
 {
     let found = match find(alloc, depot) {
         Ok(found) => found,
-        Err(reason) => return Err(reason),
+        Err(refusal) => return Err(refusal),
     };
-    load_and_tell(alloc, &found, command.batch(), depot, disk, out)
+    if let Err(reason) = load_and_tell(alloc, &found, command.batch(), depot, disk, out) {
+        return Err(Refusal {
+            reason,
+            flow: Some(found.raw),
+        });
+    }
+    Ok(())
 }
 
 // Loads, and puts the report.
@@ -55,7 +61,7 @@ fn load_and_tell<D: Depot, K: Disk, S: Sink>(
 {
     let report = match load_runner::load(alloc, &found.flow, &found.text, batch, depot, disk) {
         Ok(report) => report,
-        Err(stop) => return Err(reason_of(alloc, &found.flow, stop)),
+        Err(stop) => return Err(reason_of(stop)),
     };
     let text = report_text(alloc, &found.flow, &report)?;
     match put_all(out, text.as_bytes()) {
@@ -64,9 +70,9 @@ fn load_and_tell<D: Depot, K: Disk, S: Sink>(
     }
 }
 
-// The reason that a stop of the load is. Where a source is to be named, its name may find no memory.
-fn reason_of(alloc: Global, flow: &Flow, stop: Stop<LoadFault>) -> Reason
-    ensures { IsReason flow.now.nodes stop result }
+// The reason that a stop of the load is.
+fn reason_of(stop: Stop<LoadFault>) -> Reason
+    ensures { result ≡ reason_of_stop stop }
 {
     match stop {
         Stop::Memory => Reason::Memory,
@@ -75,27 +81,6 @@ fn reason_of(alloc: Global, flow: &Flow, stop: Stop<LoadFault>) -> Reason
         Stop::Fault(LoadFault::NotATable { at }) => Reason::NotATable { at },
         Stop::Fault(LoadFault::WorkflowDiffers) => Reason::WorkflowDiffers,
         Stop::Fault(LoadFault::Full) => Reason::Full,
-        Stop::Fault(LoadFault::Source(fault)) => {
-            match own_name(alloc, flow.nodes(), fault.source) {
-                Ok(name) => Reason::Source { name, fault },
-                Err(Memory) => Reason::Memory,
-            }
-        }
-    }
-}
-
-// The name of the first node of this number, in memory of its own; the empty one where there is none.
-fn own_name(alloc: Global, nodes: &[Node], id: NodeId) -> Result<Text, Memory>
-    ensures { IfOk result (λ name. name ≡ name_of nodes.now id) }
-{
-    match nodes {
-        [] => short_text(alloc, ""),
-        [node, others @ ..] => {
-            if node.id.0 == id.0 {
-                node.name.copy()
-            } else {
-                own_name(alloc, others, id)
-            }
-        }
+        Stop::Fault(LoadFault::Source(fault)) => Reason::Source(fault),
     }
 }

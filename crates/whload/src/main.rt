@@ -17,6 +17,7 @@ mod find;
 mod flow;
 mod laws;
 mod reason;
+mod refusal;
 mod run;
 #[cfg(test)]
 mod stops;

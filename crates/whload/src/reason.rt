@@ -6,7 +6,6 @@ ghost use Rattle.whload.specs.declared.reason.Reason.TheVariants as why;
 use flow_types::SchemaFault;
 use load_runner::SourceFault;
 use std::alloc::AllocError;
-use tuple_schema::Text;
 use workflow_file::FlowFault;
 
 /// Why a command wasn't done.
@@ -20,17 +19,16 @@ pub enum Reason {
     FlowTooLong { size: u64 },
     /// The first fault of `flow.toml`.
     Flow(FlowFault),
-    /// The names in the flow don't fit together: its first fault, and the name of that fault's node, which
-    /// is `table` for the table.
-    Schema { name: Text, fault: SchemaFault },
+    /// The names in the flow don't fit together: this is its first fault.
+    Schema(SchemaFault),
     /// The flow has something that can't be done yet.
     NotBuilt,
     /// The table's file is made, and is no table: this is the first wrong place.
     NotATable { at: u64 },
     /// The table was made by another flow text.
     WorkflowDiffers,
-    /// The first source in the order of the flow file that has no content, with its name.
-    Source { name: Text, fault: SourceFault },
+    /// The first source in the order of the flow file that has no content.
+    Source(SourceFault),
     /// The next block would end past the longest file.
     Full,
     /// The source files failed.
@@ -90,9 +88,9 @@ impl Reason {
         match self {
             Reason::Usage => Step::Words,
             Reason::FlowMissing | Reason::FlowTooLong { .. } | Reason::Flow(_) => Step::Flow,
-            Reason::Schema { .. } => Step::Flow,
+            Reason::Schema(_) => Step::Flow,
             Reason::NotBuilt => Step::Flow,
-            Reason::Source { .. } => Step::Source,
+            Reason::Source(_) => Step::Source,
             Reason::NotATable { .. } | Reason::WorkflowDiffers => Step::Table,
             Reason::Full => Step::Room,
             Reason::Depot | Reason::Disk | Reason::Sink => Step::Device,

@@ -1,11 +1,13 @@
 // The top call.
-ghost use Rattle.std.specs.Prelude.{◌≡◌, Some, map, string_bytes};
+ghost use Rattle.std.specs.Prelude.{◌≡◌, Option, Some, map, string_bytes};
+ghost use Rattle.outside.specs.Words.{Files};
 ghost use Rattle.commit_disk.specs.Crashes.{LosesNothing};
-ghost use Rattle.whload.specs.Texts.{refusal_line};
-ghost use Rattle.whload.specs.Answers.{ending_status, Notes};
+ghost use Rattle.whload.specs.Answers.{ending_status, GainsLine, Notes};
 ghost use Rattle.whload.specs.Promises.{Ends, KeepsOn, IsTold, devices};
+ghost use Rattle.whload.specs.Refusals.{HasLineOver};
 
 use crate::carry::carry_out;
+use crate::refusal::Refusal;
 use crate::texts::{NO_MEMORY, line_of};
 use crate::words::command_in;
 use crate::{Ending, Reason, Status};
@@ -37,40 +39,46 @@ pub fn run<D: Depot, K: Disk, S: Sink, N: Sink>(
         (devices (D.state depot.old) (K.state disk.old) (S.state out.old))
         (devices (D.state depot.new) (K.state disk.new) (S.state out.new)) result.reason }
     ensures status { result.status ≡ ending_status result.reason }
-    ensures notes { Notes result.reason (N.state notes.old) (N.state notes.new) }
+    ensures notes { Notes (D.state depot.old).files result.reason (N.state notes.old) (N.state notes.new) }
 {
     let command = match command_in(words) {
         Some(command) => command,
-        None => return tell(alloc, Reason::Usage, notes),
+        None => {
+            let refusal = Refusal {
+                reason: Reason::Usage,
+                flow: None,
+            };
+            return tell(alloc, refusal, notes);
+        }
     };
     match carry_out(alloc, command, depot, disk, out) {
         Ok(()) => Ending {
             status: Status::Done,
             reason: None,
         },
-        Err(reason) => tell(alloc, reason, notes),
+        Err(refusal) => tell(alloc, refusal, notes),
     }
 }
 
 // Tells why the command isn't done. A line that finds no memory gives way to that of want of memory,
 // which takes none.
-fn tell<N: Sink>(alloc: Global, reason: Reason, notes: &mut N) -> Ending
-    ensures told { IsTold (Some reason) result.reason }
+fn tell<N: Sink>(alloc: Global, refusal: Refusal, notes: &mut N) -> Ending
+    ensures told { IsTold (Some refusal.reason) result.reason }
     ensures status { result.status ≡ ending_status result.reason }
-    ensures notes { Notes result.reason (N.state notes.old) (N.state notes.new) }
+    ensures notes { (told : Option Files) → HasLineOver told refusal
+        → Notes told result.reason (N.state notes.old) (N.state notes.new) }
 {
-    match line_of(alloc, &reason) {
-        Ok(line) => note(reason, line.as_bytes(), notes),
+    match line_of(alloc, &refusal) {
+        Ok(line) => note(refusal.reason, line.as_bytes(), notes),
         Err(_) => note(Reason::Memory, NO_MEMORY.as_bytes(), notes),
     }
 }
 
 // A note that can't be written changes no answer.
 fn note<N: Sink>(reason: Reason, line: &[u8], notes: &mut N) -> Ending
-    requires { line.now ≡ refusal_line reason }
     ensures reason { result.reason ≡ Some reason }
     ensures status { result.status ≡ ending_status result.reason }
-    ensures notes { Notes result.reason (N.state notes.old) (N.state notes.new) }
+    ensures gains { GainsLine line.now (N.state notes.old) (N.state notes.new) }
 {
     let _ = put_all(notes, line);
     Ending {

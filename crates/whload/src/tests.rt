@@ -299,7 +299,7 @@ fn a_projection_takes_columns_of_its_input(rt: HostRuntime) -> Result<(), Fail> 
     Ok(())
 }
 
-const UNTYPED: [(&str, &str, &str); 7] = [
+const UNTYPED: [(&str, &str, &str); 8] = [
     (
         "nums",
         "{ name = \"nums\", kind = \"select\", input = \"nums\", where = \"b >= 20\" }",
@@ -327,7 +327,24 @@ const UNTYPED: [(&str, &str, &str); 7] = [
         "{ name = \"names\", kind = \"project\", input = \"nums\", columns = [\"b as x\", \"a as x\"] }",
         "3||whload: names: column x comes twice\n",
     ),
+    (
+        "few",
+        "{ name = \"big\", kind = \"select\", input = \"nums\", where = \"b >= 20\" }, { name = \"few\", kind = \"select\", input = \"big\", where = \"c >= 20\" }",
+        "3||whload: few: unknown column c\n",
+    ),
 ];
+
+// The source is named, and none of the nodes above it.
+#[test]
+fn a_faulty_source_below_a_node_is_told_by_its_name(rt: HostRuntime) -> Result<(), Fail> {
+    let flow = flow_with(rt.alloc(), "big", BIG)?;
+    for (nums, text) in FAULTY {
+        let left = load(rt.alloc(), Some(flow.as_str()), nums, b"")?;
+        let said = format!(in rt.alloc(); "4||whload: source nums{text}\n")?;
+        assert_eq!(rt; left.said.as_str(), said.as_str());
+    }
+    Ok(())
+}
 
 #[test]
 fn the_first_fault_of_the_names_is_told(rt: HostRuntime) -> Result<(), Fail> {

@@ -1,16 +1,17 @@
 // What the program writes.
 ghost use Rattle.std.specs.Prelude.{◌≡◌, ◌++◌, IfOk, OnOk, OnErr, codes, string_bytes};
 ghost use Rattle.std.specs.List.{flat_map};
-ghost use Rattle.whload.specs.Texts.{report_text, edge_line, name_of, place_text, shape_text, cause_text, source_text, csv_text, field_text, refusal_line, IsMade};
+ghost use Rattle.whload.specs.Texts.{report_text, edge_line, name_of, place_text, shape_text, fault_text, cause_text, source_text, csv_text, field_text, IsMade};
 ghost use Rattle.whload.specs.Lines.{line_text};
+ghost use Rattle.whload.specs.Refusals.{line_in};
 
 use crate::Reason;
+use crate::refusal::Refusal;
 use extractors::CsvFault;
 use flow_types::{Flow, Node, NodeId, SchemaCause};
 use load_runner::{EdgeCount, Report, SourceWhat};
 use row_codec::FieldFault;
 use std::alloc::{AllocError, Global};
-use tuple_schema::Text;
 use workflow_file::{FlowFault, Lack, Place};
 
 /// The report of a load that is complete.
@@ -31,7 +32,8 @@ fn add_edges(
     edges: &[EdgeCount],
     text: &mut String,
 ) -> Result<(), AllocError>
-    ensures { OnOk result (string_bytes text.new ≡ string_bytes text.old ++ flat_map (edge_line flow.now.nodes) edges.now) }
+    ensures { OnOk result (string_bytes text.new
+        ≡ string_bytes text.old ++ flat_map (edge_line flow.now.nodes) edges.now) }
 {
     match edges {
         [] => Ok(()),
@@ -87,12 +89,12 @@ impl Line {
     }
 }
 
-/// The line of the reason. Only those that tell a place, a size or a name take memory.
-pub fn line_of(alloc: Global, reason: &Reason) -> Result<Line, AllocError>
-    ensures text { IfOk result (λ line. line_text line ≡ refusal_line reason.now) }
-    ensures made { OnErr result (IsMade reason.now) }
+/// The line of the refusal. Only those that tell a place, a size or a name take memory.
+pub fn line_of(alloc: Global, refusal: &Refusal) -> Result<Line, AllocError>
+    ensures text { IfOk result (λ line. line_text line ≡ line_in refusal.now) }
+    ensures made { OnErr result (IsMade refusal.now.reason) }
 {
-    let text = match reason {
+    let text = match &refusal.reason {
         Reason::Usage => USAGE,
         Reason::FlowMissing => "whload: flow.toml is missing\n",
         Reason::FlowTooLong { size } => {
@@ -100,11 +102,13 @@ pub fn line_of(alloc: Global, reason: &Reason) -> Result<Line, AllocError>
             return Ok(Line::Made(text));
         }
         Reason::Flow(fault) => return fault_line(alloc, fault),
-        Reason::Schema { name, fault } => {
+        Reason::Schema(fault) => {
+            let name = refusal.fault_name(fault.node);
             return Ok(Line::Made(schema_line(alloc, name, &fault.cause)?));
         }
         Reason::NotBuilt => "whload: flow.toml is not built yet\n",
-        Reason::Source { name, fault } => {
+        Reason::Source(fault) => {
+            let name = refusal.name(fault.source);
             return Ok(Line::Made(source_line(alloc, name, fault.what)?));
         }
         Reason::NotATable { at } => {
@@ -128,7 +132,7 @@ const USAGE: &str =
     "whload: usage: whload load DIR [--batch N], explain DIR, check DIR, dump DIR, pack DIR SOURCE, drill N\n";
 
 fn fault_line(alloc: Global, fault: &FlowFault) -> Result<Line, AllocError>
-    ensures { IfOk result (λ line. line_text line ≡ refusal_line (Reason.Flow fault.now)) }
+    ensures { IfOk result (λ line. line_text line ≡ codes "whload: " ++ fault_text fault.now ++ codes "\n") }
 {
     match fault {
         FlowFault::NotToml => Ok(Line::Fixed("whload: flow.toml is not TOML\n")),
@@ -136,7 +140,7 @@ fn fault_line(alloc: Global, fault: &FlowFault) -> Result<Line, AllocError>
     }
 }
 
-fn schema_line(alloc: Global, name: &Text, cause: &SchemaCause) -> Result<String, AllocError>
+fn schema_line(alloc: Global, name: &str, cause: &SchemaCause) -> Result<String, AllocError>
     ensures { IfOk result (λ text. string_bytes text
         ≡ codes "whload: " ++ (name.now ++ (codes ": " ++ cause_text cause.now)) ++ codes "\n") }
 {
@@ -144,10 +148,9 @@ fn schema_line(alloc: Global, name: &Text, cause: &SchemaCause) -> Result<String
     format!(in alloc; "whload: {text}\n")
 }
 
-fn node_text(alloc: Global, name: &Text, cause: &SchemaCause) -> Result<String, AllocError>
+fn node_text(alloc: Global, name: &str, cause: &SchemaCause) -> Result<String, AllocError>
     ensures { IfOk result (λ text. string_bytes text ≡ name.now ++ (codes ": " ++ cause_text cause.now)) }
 {
-    let name = name.as_str();
     let cause = cause_of(alloc, cause)?;
     format!(in alloc; "{name}: {cause}")
 }
@@ -174,7 +177,7 @@ fn cause_of(alloc: Global, cause: &SchemaCause) -> Result<String, AllocError>
     }
 }
 
-fn source_line(alloc: Global, name: &Text, what: SourceWhat) -> Result<String, AllocError>
+fn source_line(alloc: Global, name: &str, what: SourceWhat) -> Result<String, AllocError>
     ensures { IfOk result (λ text. string_bytes text
         ≡ codes "whload: " ++ (codes "source " ++ (name.now ++ source_text what)) ++ codes "\n") }
 {
@@ -182,12 +185,11 @@ fn source_line(alloc: Global, name: &Text, what: SourceWhat) -> Result<String, A
     format!(in alloc; "whload: {text}\n")
 }
 
-fn source_of(alloc: Global, name: &Text, what: SourceWhat) -> Result<String, AllocError>
+fn source_of(alloc: Global, name: &str, what: SourceWhat) -> Result<String, AllocError>
     ensures { IfOk result (λ text. string_bytes text ≡ codes "source " ++ (name.now ++ source_text what)) }
 {
-    let source = name.as_str();
     let what = what_text(alloc, what)?;
-    format!(in alloc; "source {source}{what}")
+    format!(in alloc; "source {name}{what}")
 }
 
 fn what_text(alloc: Global, what: SourceWhat) -> Result<String, AllocError>

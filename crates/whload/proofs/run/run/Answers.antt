@@ -12,6 +12,9 @@ returns-in-None-clause-ends g c = record {
   told = c.tell.ensures.told;
 }
 
+pub returns-in-None-clause-notes : goal.returns-in-None-clause-notes
+returns-in-None-clause-notes g c = c.tell.ensures.notes _ (λ files told. refl)
+
 pub returns-in-Ok : goal.returns-in-Ok
 returns-in-Ok g c =
     let keeping = begins_keeps _ _ _ _ c.carry_out.ensures.begins in
@@ -34,10 +37,10 @@ returns-in-Err g c =
       keeps = keeping.on;
       never_lost = keeping.nothing;
       ends = record {
-        ended = Some c.in-Err.reason;
+        ended = Some c.in-Err.refusal.reason;
         promised = promised (map string_bytes c.args.words.now) _ _ _ _ (rw c.in-Some.is at c.command_in.ensures.command) (rw c.in-Err.is at c.carry_out.ensures.begins);
         told = c.tell-in-Err.ensures.told;
       };
       status = c.tell-in-Err.ensures.status;
-      notes = c.tell-in-Err.ensures.notes;
+      notes = c.tell-in-Err.ensures.notes _ c.in-Err.ensures.line;
     }

@@ -30,12 +30,12 @@ module _ {X : Type 0} (name : X → List ℕ) where
   past (x ∷ xs) (suc place) none = past xs place none
 
 module _ (raw : RawFlow) (place : ℕ) where
-  pub source_name : (s : RawSource) → slice_get raw.sources place ≡ Some s → name_at (names_of raw) place ≡ s.name
-  source_name s is = at_first (λ (t : RawSource). t.name) raw.sources _ place s is
+  pub of_source : (s : RawSource) → slice_get raw.sources place ≡ Some s → name_at (names_of raw) place ≡ s.name
+  of_source s is = at_first (λ (t : RawSource). t.name) raw.sources _ place s is
 
   module _ (none : slice_get raw.sources place ≡ None) where
-    pub node_name : (n : RawNode) → slice_get raw.nodes (place - length raw.sources) ≡ Some n → name_at (names_of raw) place ≡ n.name
-    node_name n is = behind (λ (t : RawSource). t.name) raw.sources _ place none ∙ at_last (λ (m : RawNode). m.name) raw.nodes _ n is
+    pub of_node : (n : RawNode) → slice_get raw.nodes (place - length raw.sources) ≡ Some n → name_at (names_of raw) place ≡ n.name
+    of_node n is = behind (λ (t : RawSource). t.name) raw.sources _ place none ∙ at_last (λ (m : RawNode). m.name) raw.nodes _ n is
 
-    pub no_name : slice_get raw.nodes (place - length raw.sources) ≡ None → name_at (names_of raw) place ≡ []
-    no_name past_end = behind (λ (t : RawSource). t.name) raw.sources _ place none ∙ past (λ (m : RawNode). m.name) raw.nodes _ past_end
+    pub no_node : slice_get raw.nodes (place - length raw.sources) ≡ None → name_at (names_of raw) place ≡ []
+    no_node past_end = behind (λ (t : RawSource). t.name) raw.sources _ place none ∙ past (λ (m : RawNode). m.name) raw.nodes _ past_end
