@@ -100,8 +100,12 @@ has_more text old image blocks block placed was either = record {
             let longer = longer_table (had ++ has.0) block in
             inl (⊎_elim
             (λ is_before. (has.0, false, subst (HoldsBlocks image text) (sym unended) is_before))
-            (λ is_after. (has.0 ++ longer.0, longer.1, subst (HoldsBlocks image text)
-            (ap (λ (bs : List TableBlock). bs ++ block ∷ []) (sym unended) ∙ longer.2 ∙ ap (λ (bs : List Stored). table bs longer.1) (append_assoc had has.0 longer.0)) is_after))
+            (λ is_after. (
+              has.0 ++ longer.0,
+              longer.1,
+              subst (HoldsBlocks image text)
+                  (ap (λ (bs : List TableBlock). bs ++ block ∷ []) (sym unended) ∙ longer.2 ∙ ap (λ (bs : List Stored). table bs longer.1) (append_assoc had has.0 longer.0)) is_after,
+            ))
             either)
         | inr none ↦ absurd (not_both old text blocks was none.0)
       ];

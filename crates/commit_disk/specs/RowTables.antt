@@ -10,19 +10,23 @@ use Rattle.commit_disk.specs.Crashes.{LeavesWhole}
 use Rattle.commit_disk.specs.Attach.{TellsOf, rows_in}
 
 -- behind blocks with no end any block may stand
-pub may_follow : (blocks : List TableBlock) (block : TableBlock) → has_end blocks ≡ false → AreInPlace (blocks ++ block ∷ [])
+pub may_follow : (blocks : List TableBlock) (block : TableBlock) → has_end blocks ≡ false
+    → AreInPlace (blocks ++ block ∷ [])
 may_follow [] block none [] behind is = sym (ap (λ (l : List TableBlock). drop 1 l) is)
-may_follow [] block none (b ∷ before) behind is = absurd (omega (arith, ap length is, length-append before (end_block ∷ behind)))
+may_follow [] block none (b ∷ before) behind is =
+    absurd (omega (arith, ap length is, length-append before (end_block ∷ behind)))
 may_follow (rows_block rows ∷ blocks) block none [] behind is = absurd cc
 may_follow (rows_block rows ∷ blocks) block none (b ∷ before) behind is =
     may_follow blocks block none before behind (ap (λ (l : List TableBlock). drop 1 l) is)
 may_follow (end_block ∷ blocks) block none before behind is = absurd (true≢false none)
 
 -- behind an end block none may stand
-pub none_follow : (blocks : List TableBlock) (block : TableBlock) → has_end blocks ≡ true → AreInPlace (blocks ++ block ∷ []) → ⊥
+pub none_follow : (blocks : List TableBlock) (block : TableBlock) → has_end blocks ≡ true
+    → AreInPlace (blocks ++ block ∷ []) → ⊥
 none_follow [] block some placed = absurd (true≢false (sym some))
 none_follow (rows_block rows ∷ blocks) block some placed =
-    none_follow blocks block some (λ before behind is. placed (rows_block rows ∷ before) behind (λ i. rows_block rows ∷ is i))
+    none_follow blocks block some
+    (λ before behind is. placed (rows_block rows ∷ before) behind (λ i. rows_block rows ∷ is i))
 none_follow (end_block ∷ blocks) block some placed =
     absurd (omega (arith, ap length (placed [] (blocks ++ block ∷ []) refl), length-append blocks (block ∷ [])))
 
@@ -45,16 +49,20 @@ pub as_table : (blocks : List TableBlock) → AreInPlace blocks → blocks ≡ t
 unfolding table
 as_table [] placed = refl
 as_table (rows_block rows ∷ blocks) placed =
-    ap (λ (l : List TableBlock). rows_block rows ∷ l) (as_table blocks (λ before behind is. placed (rows_block rows ∷ before) behind (λ i. rows_block rows ∷ is i)))
+    ap (λ (l : List TableBlock). rows_block rows ∷ l)
+    (as_table blocks (λ before behind is. placed (rows_block rows ∷ before) behind (λ i. rows_block rows ∷ is i)))
 as_table (end_block ∷ blocks) placed =
     let none : blocks ≡ [] = placed [] blocks refl in
-    ap (λ (l : List TableBlock). end_block ∷ l) none ∙ ap (λ (l : List TableBlock). table (row_blocks (end_block ∷ l)) true) (sym none)
+    ap (λ (l : List TableBlock). end_block ∷ l) none
+    ∙ ap (λ (l : List TableBlock). table (row_blocks (end_block ∷ l)) true) (sym none)
 
 -- one block of rows more
-pub table_more : (olds : List Stored) (rows : Stored) → table olds false ++ rows_block rows ∷ [] ≡ table (olds ++ rows ∷ []) false
+pub table_more : (olds : List Stored) (rows : Stored)
+    → table olds false ++ rows_block rows ∷ [] ≡ table (olds ++ rows ∷ []) false
 unfolding table
 table_more olds rows =
-    ap (λ (l : List TableBlock). l ++ rows_block rows ∷ []) (append-nil (map rows_block olds)) ∙ sym (map-append rows_block olds (rows ∷ []))
+    ap (λ (l : List TableBlock). l ++ rows_block rows ∷ []) (append-nil (map rows_block olds))
+    ∙ sym (map-append rows_block olds (rows ∷ []))
     ∙ sym (append-nil (map rows_block (olds ++ rows ∷ [])))
 
 -- and the end
@@ -67,9 +75,11 @@ pub follows_table : (olds : List Stored) (block : TableBlock) → AreInPlace (ta
 follows_table olds block = may_follow (table olds false) block (end_of_table olds false)
 
 -- what is held is held as a table of rows
-pub holds_rows_up_to : (place : ℕ) (image text : List ℕ) (blocks : List TableBlock) → HoldsBlocksUpTo place image text blocks
+pub holds_rows_up_to : (place : ℕ) (image text : List ℕ) (blocks : List TableBlock)
+    → HoldsBlocksUpTo place image text blocks
     → HoldsUpTo place image text (row_blocks blocks) (has_end blocks)
-holds_rows_up_to place image text blocks held = subst (HoldsBlocksUpTo place image text) (as_table blocks held.holds.placed) held
+holds_rows_up_to place image text blocks held =
+    subst (HoldsBlocksUpTo place image text) (as_table blocks held.holds.placed) held
 
 -- of which table of rows a journal tells
 pub told_rows : (journal : JournalState) (image text : List ℕ) (told : TellsOf journal image text)
@@ -101,7 +111,8 @@ table_tells image text blocks ended holds = record {
 }
 
 -- an image holds the rows of one table at most, ended or not
-pub holds_rows_once : HoldsOnce → (image text other : List ℕ) (blocks others : List Stored) (ended stopped : Bool) → Holds image text blocks ended
+pub holds_rows_once : HoldsOnce
+    → (image text other : List ℕ) (blocks others : List Stored) (ended stopped : Bool) → Holds image text blocks ended
     → Holds image other others stopped → (text ≡ other) × (blocks ≡ others) × (ended ≡ stopped)
 holds_rows_once once image text other blocks others ended stopped one two =
     let same = once image text other (table blocks ended) (table others stopped) one two in (
@@ -112,18 +123,22 @@ holds_rows_once once image text other blocks others ended stopped one two =
 
 -- a block of rows is committed behind a table that isn't ended
 pub commits_rows : (gate next : ℕ) (rows : Stored) (old new : List ℕ) → Commits gate next (rows_block rows) old new
-    → (text : List ℕ) (olds : List Stored) → HoldsUpTo gate old text olds false → HoldsUpTo next new text (olds ++ rows ∷ []) false
+    → (text : List ℕ) (olds : List Stored) → HoldsUpTo gate old text olds false
+    → HoldsUpTo next new text (olds ++ rows ∷ []) false
 commits_rows gate next rows old new commits text olds was =
-    subst (HoldsBlocksUpTo next new text) (table_more olds rows) (commits text (table olds false) (follows_table olds (rows_block rows)) was)
+    subst (HoldsBlocksUpTo next new text) (table_more olds rows)
+    (commits text (table olds false) (follows_table olds (rows_block rows)) was)
 
 -- and so is the end
 pub commits_end : (gate next : ℕ) (old new : List ℕ) → Commits gate next end_block old new
     → (text : List ℕ) (olds : List Stored) → HoldsUpTo gate old text olds false → HoldsUpTo next new text olds true
 commits_end gate next old new commits text olds was =
-    subst (HoldsBlocksUpTo next new text) (table_ended olds) (commits text (table olds false) (follows_table olds end_block) was)
+    subst (HoldsBlocksUpTo next new text) (table_ended olds)
+    (commits text (table olds false) (follows_table olds end_block) was)
 
 -- what a crash leaves of a table that isn't ended, while a block of rows is committed
-pub leaves_rows : (gate : ℕ) (rows : Stored) (old : List ℕ) (images : List ℕ → Type 0) → LeavesWhole gate (rows_block rows) old images
+pub leaves_rows : (gate : ℕ) (rows : Stored) (old : List ℕ) (images : List ℕ → Type 0)
+    → LeavesWhole gate (rows_block rows) old images
     → (text : List ℕ) (olds : List Stored) → HoldsUpTo gate old text olds false
     → Each images (λ image. Holds image text olds false ⊎ Holds image text (olds ++ rows ∷ []) false)
 leaves_rows gate rows old images whole text olds was image left =

@@ -126,7 +126,8 @@ impl Journal {
 
         ensures moved { OnOk result (self.new ≡ after self.old (rows_block block.now)) }
         ensures done { OnOk result (IsTrue (K.state disk.old).honest
-            → Commits self.old.gate self.new.gate (rows_block block.now) (K.state disk.old).file (K.state disk.new).file) }
+            → Commits self.old.gate self.new.gate (rows_block block.now) (K.state disk.old).file
+            (K.state disk.new).file) }
         ensures size { OnOk result (self.new.gate < (K.state disk.new).size) }
 
         ensures settled { OnOk result (IsTrue (K.state disk.old).honest → IsSettled (K.state disk.new)) }

@@ -7,8 +7,9 @@
 //!
 //! Promised of an honest disk on which nothing is pending: at every moment of `make` a crash leaves
 //! no table yet or the empty one, and at every moment of `Journal::commit` and `Journal::end` the
-//! blocks from before, or those and the new one whole. After Ok nothing is pending, and a read gives the new table. A device fault is answered only
-//! where the disk failed.
+//! blocks from before, or those and the new one whole. After Ok nothing is pending, and a read gives
+//! the new table. A device fault is answered only where the disk failed. `Journal::block_at` tells
+//! what the head of a block says, which is read nowhere else.
 //! Not promised: anything of a disk that isn't honest, or of two writers at one time.
 #![tactic(auto)]
 

@@ -174,7 +174,8 @@ fn commit_block<K: Disk>(
 
     ensures moved { OnOk result (journal.new ≡ after journal.old (rows_block block.now)) }
     ensures done { OnOk result (IsTrue (K.state disk.old).honest
-        → Commits journal.old.gate journal.new.gate (rows_block block.now) (K.state disk.old).file (K.state disk.new).file) }
+        → Commits journal.old.gate journal.new.gate (rows_block block.now) (K.state disk.old).file
+        (K.state disk.new).file) }
     ensures size { OnOk result (journal.new.gate < (K.state disk.new).size) }
     ensures settled { OnOk result (IsTrue (K.state disk.old).honest → IsSettled (K.state disk.new)) }
 

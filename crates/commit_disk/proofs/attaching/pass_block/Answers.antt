@@ -32,5 +32,9 @@ returns-clause-tells c = λ image text read is_open ends_at way.
 pub returns-then-ended-clause-tells : goal.returns-then-ended-clause-tells
 returns-then-ended-clause-tells c = λ image text read is_open ends_at way.
     let ended : has_end way.blocks ≡ true = sym way.ended ∙ sym c.ended.ensures ∙ c.if-ended.true in
-    inr (text, way.blocks, subst (λ (place : ℕ). IsStuck place image text way.blocks) (sym c.gate-at.ensures.gate)
-    (stuck_behind_end c.args.journal.now.gate image text way.blocks way.leads ended is_open))
+    inr (
+      text,
+      way.blocks,
+      subst (λ (place : ℕ). IsStuck place image text way.blocks) (sym c.gate-at.ensures.gate)
+          (stuck_behind_end c.args.journal.now.gate image text way.blocks way.leads ended is_open),
+    )
