@@ -204,7 +204,9 @@ def refusals():
             ("an empty flow", b"", b"flow.toml top 0 table 0: absent"),
             ("a flow of 65,537 bytes", FLOW + b"#" * (65537 - len(FLOW)),
              b"flow.toml has 65537 bytes"),
-            ("a text column", FLOW.replace(b"b int", b"b text"), b"flow.toml is not built yet"),
+            ("a selection beside a text column", FLOW.replace(b"b int", b"b text").replace(b'input = "nums"', b'input = "big"')
+             + b'node = [ { name = "big", kind = "select", input = "nums", where = "a > 1" } ]\n',
+             b"flow.toml is not built yet"),
             ("another input", FLOW.replace(b'input = "nums"', b'input = "more"'), b"table: no input more")]:
         expect_refusal(what, {"flow.toml": text, "nums.csv": b"a,b\n"}, 3, note)
     longest = FLOW + b"#" * (65536 - len(FLOW))

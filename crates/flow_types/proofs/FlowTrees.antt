@@ -14,7 +14,6 @@ use Rattle.flow_types.specs.declared.node.Kind.{Kind}
 use Rattle.flow_types.specs.declared.node.Kind.TheVariants as kind
 use Rattle.flow_types.specs.declared.node.Node.{Node}
 use Rattle.flow_types.specs.Flows.{TypedFlow, number_of, count_inputs, tree_of, root_in, ids_of, node_of, columns_of, keeps_order, has_fixed_root}
-use Rattle.flow_types.specs.Columns.{IsInt}
 use Rattle.flow_types.specs.Linked.{IsOver, IsLinked, IsLinkedOver, AreApart, IsFlow}
 use Rattle.flow_types.specs.Graph.{names_of, graph_of, ComeOnce}
 use Rattle.flow_types.specs.Typed.{typed, typed_tree}
@@ -106,12 +105,6 @@ alone_in flow is = ap (trees_in count_inputs) (sym is.all) ∙ trees_in-tree cou
 pub root_at : (flow : TypedFlow) (is : IsFlow flow) → root_in flow.nodes ≡ Some (root_of is.tree)
 root_at flow is = ap root_in (sym is.all) ∙ root_in-tree is.tree
 
-root_ints_in : (t : Tree Node) → EachNode IsLinkedOver t → All IsInt (root_of t).schema
-root_ints_in (node n trees) linked = linked.0.ints
-
-pub root_ints : (flow : TypedFlow) → IsFlow flow → (n : Node) → root_in flow.nodes ≡ Some n → All IsInt n.schema
-root_ints flow is n at = subst (λ (m : Node). All IsInt m.schema) (same_Some _ _ (sym (root_at flow is) ∙ at)) (root_ints_in is.tree is.linked)
-
 module _ (P : Node → Type 0) (of : (n : Node) (below : List Node) → IsLinked n below → P n) where
   mutual
     all_in : (t : Tree Node) → EachNode IsLinkedOver t → All P (in_order t)
@@ -125,10 +118,6 @@ module _ (P : Node → Type 0) (of : (n : Node) (below : List Node) → IsLinked
   -- what holds of each node that is linked holds of each node of a flow
   each_node : (flow : TypedFlow) → IsFlow flow → All P flow.nodes
   each_node flow is = subst (All P) is.all (all_in is.tree is.linked)
-
--- the columns of each node of a flow are whole numbers
-pub all_ints : (flow : TypedFlow) → IsFlow flow → All (λ n. All IsInt n.schema) flow.nodes
-all_ints = each_node (λ n. All IsInt n.schema) (λ n below is. is.ints)
 
 list_all_true : {X : Type 0} (test : X → Bool) (xs : List X) → All (λ x. test x ≡ true) xs → list_all test xs ≡ true
 list_all_true test [] all = refl

@@ -1,5 +1,5 @@
 -- What stands in a flow that keeps its rules and is built keeps its own.
-use Rattle.std.proofs.Common.{◌≡◌, ℕ, ◌-◌, ◌<◌, List, length, get_or, slice_get, codes, bytes_eq, Bool, true, refl, sym, ◌∙◌, inl, inr, Option, Some, None, option_map, option_and_then}
+use Rattle.std.proofs.Common.{◌≡◌, ◌≢◌, is_some, is_none, ℕ, ◌-◌, ◌<◌, List, length, get_or, slice_get, codes, bytes_eq, Bool, true, refl, sym, ◌∙◌, inl, inr, Option, Some, None, option_map, option_and_then}
 use Rattle.std.specs.List.{list_all}
 use Rattle.std.proofs.lemmas.Bool.{and_parts, cases_Bool, both_ways}
 use Rattle.std.proofs.lemmas.List.Folds.{list_all_at}
@@ -10,7 +10,7 @@ use Rattle.workflow_file.specs.declared.raw.RawFlow.{RawFlow}
 use Rattle.workflow_file.specs.Kept.{KeepsSource, KeepsNode, KeepsRules}
 use Rattle.plain_where.specs.declared.expr.Expr.{Expr}
 use Rattle.plain_where.specs.Texts.{expression_of}
-use Rattle.flow_types.specs.Built.{is_built_source, is_built}
+use Rattle.flow_types.specs.Built.{is_built_source, is_built_node, is_built}
 use Rattle.flow_types.specs.NodeTexts.{NodeText, source, select, project, text_of, text_at}
 use Rattle.flow_types.specs.Linked.{KeepsText}
 
@@ -20,6 +20,25 @@ all_pass p xs k d all h =
       | inl passes ↦ passes
       | inr fails ↦ absurd (both_ways (list_all p xs) (list_all_at p xs k d h fails) all)
     ]
+
+-- the parts of a flow that is built are
+pub built_sources : (raw : RawFlow) → is_built raw ≡ true → list_all is_built_source raw.sources ≡ true
+unfolding is_built
+built_sources raw built = (and_parts _ _ (and_parts _ _ built).1).0
+
+pub built_nodes : (raw : RawFlow) → is_built raw ≡ true → list_all is_built_node raw.nodes ≡ true
+unfolding is_built
+built_nodes raw built = (and_parts _ _ (and_parts _ _ built).1).1
+
+is_there : {X : Type 0} (o : Option X) → is_some o ≡ true → o ≡ None → ⊥
+is_there (Some x) some none = absurd cc
+is_there None some none = absurd cc
+
+-- each node of it says something
+pub says_something : (raw : RawFlow) (k : ℕ) (n : RawNode) → is_built raw ≡ true → k < length raw.nodes → n ≡ get_or raw.nodes k n → text_of n ≢ None
+says_something raw k n built h item =
+    let fine : is_built_node n ≡ true = rw item (all_pass is_built_node raw.nodes k n (built_nodes raw built) h) in
+    is_there (text_of n) (and_parts (is_none n.declare) (is_some (text_of n)) fine).1
 
 select_keeps : (o : Option Expr) (text : NodeText) → option_map select o ≡ Some text → KeepsText text
 select_keeps None text is = absurd (cc)
@@ -48,7 +67,7 @@ module _ (raw : RawFlow) (keeps : KeepsRules raw) (built : is_built raw ≡ true
       let same : source s ≡ text = same_Some _ _ (rw at at says) in
       let h = slice_get_within raw.sources place s at in
       let item : s ≡ get_or raw.sources place s = same_Some _ _ (sym at ∙ slice_get-get_or raw.sources place s h) in
-      let all : list_all is_built_source raw.sources ≡ true = (and_parts _ _ (and_parts _ _ built).1).0 in
+      let all : list_all is_built_source raw.sources ≡ true = built_sources raw built in
       let kept : KeepsSource s = rw item (keeps.sources place s h) in
       let fine : is_built_source s ≡ true = rw item (all_pass is_built_source raw.sources place s all h) in
       rw (← same) (kept, fine)

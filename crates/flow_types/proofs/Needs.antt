@@ -18,7 +18,7 @@ use Rattle.flow_types.proofs.Whole.{whole_inputs}
 use Rattle.flow_types.proofs.Links.{inputs_counted}
 use Rattle.flow_types.specs.NodeTexts.{NodeText, source, select, project, text_of, text_at, inputs_needed}
 use Rattle.plain_where.specs.declared.expr.Expr.{Expr}
-use Rattle.flow_types.proofs.KeptTexts.{all_pass}
+use Rattle.flow_types.proofs.KeptTexts.{all_pass, built_nodes}
 use Rattle.plain_where.specs.Texts.{expression_of}
 
 -- the kinds that are built have no other input
@@ -138,7 +138,7 @@ module _ (raw : RawFlow) (keeps : KeepsRules raw) (built : is_built raw ≡ true
       let h = slice_get_within raw.nodes k n at in
       let item : n ≡ get_or raw.nodes k n = same_Some _ _ (sym at ∙ slice_get-get_or raw.nodes k n h) in
       let kept : KeepsNode n = rw item (keeps.nodes k n h) in
-      let nodes_built : list_all is_built_node raw.nodes ≡ true = (and_parts _ _ (and_parts _ _ built).1).1 in
+      let nodes_built : list_all is_built_node raw.nodes ≡ true = built_nodes raw built in
       let fine : is_built_node n ≡ true = rw item (all_pass is_built_node raw.nodes k n nodes_built h) in
       let beyond = past_end raw.sources place past in
       ap length (needs_node raw place k n (omega arith) h item) ∙ (names_one n kept fine ∙ sym (needed_one n text says))

@@ -2,7 +2,7 @@
 use Rattle.std.proofs.Common.{◌≡◌, ℕ, zero, suc, ◌-◌, ◌+◌, ◌<◌, ◌≤◌, List, [], ◌∷◌, ◌++◌, length, map, filter_map, take, drop, get_or, slice_get, refl, sym, ap, ◌∙◌, Some, All, subst, Ok, Err, length-append, append_assoc, append-nil, arith}
 use Rattle.std.proofs.Math.Seq.{get_or-append_seam}
 use Rattle.std.proofs.lemmas.List.{map-append, take_more, take_all, drop_more, take-append-drop}
-use Rattle.std.proofs.lemmas.List.Elements.{All-nil, All-cons, All-append}
+use Rattle.std.proofs.lemmas.List.Elements.{All-nil, All-cons}
 use Rattle.std.proofs.lemmas.Option.{slice_get-get_or, slice_get_within}
 use Rattle.tuple_schema.specs.declared.memory.Stop.{Stop}
 use Rattle.tuple_schema.specs.declared.memory.Stop.TheVariants as stop
@@ -14,7 +14,6 @@ use Rattle.flow_types.specs.declared.node.Node.{Node}
 use Rattle.flow_types.specs.Trees.{tree_below, inputs_below}
 use Rattle.flow_types.specs.Flows.{root_in}
 use Rattle.flow_types.specs.Typed.{typed_node, at_node, typed_tree, typed_trees}
-use Rattle.flow_types.specs.Columns.{IsInt}
 use Rattle.flow_types.specs.Linked.{IsLinked, IsLinkedOver}
 use Rattle.flow_types.specs.Typing.{HasTree}
 use Rattle.flow_types.proofs.Made.{bound}
@@ -152,21 +151,7 @@ trees_more raw below inputs i h front nodes more roots root has one =
     subst (λ (ts : List (Tree ℕ)). HasTrees raw (trees_of ts) front more (roots ++ root ∷ [])) (sym trees)
     (one_more raw (map below (take i inputs)) (below (get_or inputs i 0)) front nodes more roots root has one)
 
--- the columns of nodes that were typed are whole numbers
-mutual
-  tree_ints : (t : Tree Node) → EachNode IsLinkedOver t → All (λ n. All IsInt n.schema) (in_order t)
-  tree_ints (node n trees) linked =
-      All-append (λ m. All IsInt m.schema) (all_in_order trees) (n ∷ []) (trees_ints trees linked.1)
-      (All-cons (λ m. All IsInt m.schema) n [] linked.0.ints (All-nil (λ m. All IsInt m.schema)))
-
-  trees_ints : (trees : Trees Node) → EachNodeBelow IsLinkedOver trees → All (λ n. All IsInt n.schema) (all_in_order trees)
-  trees_ints no_trees linked = All-nil (λ m. All IsInt m.schema)
-  trees_ints (tree first rest) linked = All-append (λ m. All IsInt m.schema) (in_order first) (all_in_order rest) (tree_ints first linked.0) (trees_ints rest linked.1)
-
 module _ (raw : RawFlow) (places : Trees ℕ) (front nodes : List Node) (roots : List ℕ) (has : HasTrees raw places front nodes roots) where
-  pub ints_behind : All (λ n. All IsInt n.schema) front → All (λ n. All IsInt n.schema) nodes
-  ints_behind ints = rw has.all (All-append (λ m. All IsInt m.schema) front (all_in_order has.trees) ints (trees_ints has.trees has.linked))
-
   pub roots_within : All (λ root. root < length nodes) roots
   roots_within = all_within nodes roots (roots_of has.trees) has.stand
 
@@ -194,10 +179,6 @@ module _ (raw : RawFlow) (places : Trees ℕ) (front nodes : List Node) (roots :
   fault_over place (stop.Fault fault) failed =
       let top : at_node place (typed_node raw place (roots_of has.trees)) ≡ Err fault = rw inputs_are at failed in
       rw (has.typed, top) refl
-
-pub tree_ints_behind : (raw : RawFlow) (places : Tree ℕ) (front nodes : List Node) (root : ℕ) → HasTree raw places front nodes root → All (λ n. All IsInt n.schema) front
-    → All (λ n. All IsInt n.schema) nodes
-tree_ints_behind raw places front nodes root has ints = rw has.all (All-append (λ m. All IsInt m.schema) front (in_order has.tree) ints (tree_ints has.tree has.linked))
 
 -- The tree of a node of a graph, whose inputs are these.
 

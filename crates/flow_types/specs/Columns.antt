@@ -1,22 +1,34 @@
--- Columns of whole numbers.
-use Rattle.std.specs.Prelude.{◌≡◌, ℕ, List, codes, bytes_eq, Bool, false, Option, Some, None}
+-- What the text of a column says: `NAME KIND`, and a `?` at once behind it where Null is allowed.
+use Rattle.std.specs.Prelude.{ℕ, ◌-◌, ◌==◌, List, [], length, slice_index, unwrap_or, codes, bytes_eq, Bool, if◌then◌else◌}
 use Rattle.tuple_schema.specs.declared.schema.Column.{Column}
+use Rattle.tuple_schema.specs.declared.schema.ColumnKind.{ColumnKind}
 use Rattle.tuple_schema.specs.declared.schema.ColumnKind.TheVariants as kind
 use Rattle.tuple_schema.specs.Texts.{head_of, rest_of}
+use Rattle.workflow_file.specs.Texts.{without_mark}
 
--- the rest of `NAME int`
-abbrev pub is_int : Option (List ℕ) → Bool
-is_int None = false
-is_int (Some word) = bytes_eq word (codes "int")
+-- what stands behind the name, as `int` or `dec2?`
+abbrev pub word_in : List ℕ → List ℕ
+word_in text = unwrap_or (rest_of text) []
 
--- `NAME int`
+-- a kind by its word: `int`, `text`, or `dec` and the digit that is the number of its places
+abbrev pub kind_of : List ℕ → ColumnKind
+kind_of word =
+    if bytes_eq word (codes "int") then kind.Int
+    else if bytes_eq word (codes "text") then kind.Text
+    else kind.Dec (slice_index word 3 - 48)
+
+-- a `?` stands at the end
+abbrev pub is_marked : List ℕ → Bool
+is_marked word = slice_index word (length word - 1) == 63
+
+-- the column that a text says: its name, its kind by the word without the mark, and Null allowed where the mark is
+abbrev pub stated_column : List ℕ → Column
+stated_column text = record {
+  name = head_of text;
+  kind = kind_of (without_mark (word_in text));
+  nullable = is_marked (word_in text);
+}
+
+-- `NAME int`: whole numbers that are always there
 abbrev pub is_int_column : List ℕ → Bool
-is_int_column text = is_int (rest_of text)
-
--- its column
-abbrev pub int_column : List ℕ → Column
-int_column text = record { name = head_of text; kind = kind.Int; nullable = false }
-
--- a column of whole numbers that are always there
-abbrev pub IsInt : Column → Type 0
-IsInt c = (c.kind ≡ kind.Int) × (c.nullable ≡ false)
+is_int_column text = bytes_eq (word_in text) (codes "int")

@@ -1,11 +1,11 @@
 -- What holds of the nodes of a typed flow: each is over its inputs, whose columns it takes.
-use Rattle.std.specs.Prelude.{◌≡◌, ◌≤◌, ◌<◌, ◌==◌, ℕ, List, [], ◌∷◌, length, map, count_by, All, IsSome, IsTrue, Some, true, false, ⊤}
+use Rattle.std.specs.Prelude.{◌≡◌, ◌≤◌, ◌<◌, ◌==◌, ℕ, List, [], ◌∷◌, length, map, count_by, slice_get, All, IsSome, IsTrue, Some, true, false, ⊤}
+use Rattle.std.specs.List.{AllZip}
 use Rattle.tuple_schema.specs.declared.schema.Column.{Column}
 use Rattle.tuple_schema.specs.Schemas.{IsSchema, are_distinct}
 use Rattle.list_algebra.specs.Trees.{Tree, Trees, EachNode, roots_of, in_order}
 use Rattle.workflow_file.specs.Kept.{KeepsSource}
 use Rattle.plain_where.specs.Truths.{place_of}
-use Rattle.flow_types.specs.Columns.{IsInt}
 use Rattle.flow_types.specs.Built.{is_built_source}
 use Rattle.flow_types.specs.declared.node.Source.{Source}
 use Rattle.flow_types.specs.declared.node.Kind.{Kind}
@@ -15,16 +15,21 @@ use Rattle.flow_types.specs.Names.{names_in}
 use Rattle.flow_types.specs.NodeTexts.{NodeText, source, select, project}
 use Rattle.flow_types.specs.Flows.{TypedFlow, number_of, tree_of, columns_in, columns_of, ids_of}
 
--- these places of the input are taken, and each gives a column of whole numbers
+-- the column holds what the input's column at the place holds; the names may differ
+pub record IsTaken (input : List Column) (place : ℕ) (column : Column) : Type 0 where
+  pub of : Column
+  pub at : slice_get input place ≡ Some of
+  pub kind : column.kind ≡ of.kind
+  pub nullable : column.nullable ≡ of.nullable
+
+-- these places of the input are taken, each as the column beside it
 pub record Takes (input : List Column) (from : List ℕ) (columns : List Column) : Type 0 where
   pub within : All (λ place. place < length input) from
-  pub each : length columns ≡ length from
-  pub ints : All IsInt columns
+  pub each : AllZip (IsTaken input) from columns
 
--- a source that is built at this stage: a CSV file with the columns' names in its header, its rows in the truth's order
+-- a source that is built at this stage: a CSV file, its rows in the truth's order
 pub record IsBuiltSource (s : Source) : Type 0 where
   pub csv : s.packed ≡ false
-  pub names : s.any_header ≡ false
   pub seq : s.seq ≡ true
 
 -- what a node says keeps the rules, and is built
@@ -39,12 +44,11 @@ IsOver (kind.Source s) inputs columns = (inputs ≡ []) × IsBuiltSource s
 IsOver (kind.Select test) inputs columns = (inputs ≡ columns ∷ []) × IsSome (place_of (names_in columns) test.column)
 IsOver (kind.Project from) inputs columns = (length inputs ≡ 1) × Takes (columns_in inputs 0) from columns
 
--- a node over these inputs, whose columns are whole numbers
+-- a node over these inputs, whose columns are a schema
 pub record IsLinked (n : Node) (below : List Node) : Type 0 where
   pub inputs : n.inputs ≡ ids_of below
   pub over : IsOver n.kind (columns_of below) n.schema
   pub schema : IsSchema n.schema
-  pub ints : All IsInt n.schema
 
 -- a node over the trees of its inputs
 abbrev pub IsLinkedOver : Node → Trees Node → Type 0

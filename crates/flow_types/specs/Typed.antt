@@ -6,7 +6,7 @@ use Rattle.tuple_schema.specs.declared.schema.Column.{Column}
 use Rattle.workflow_file.specs.declared.raw.RawSource.{RawSource}
 use Rattle.workflow_file.specs.declared.raw.RawFlow.{RawFlow}
 use Rattle.tuple_schema.specs.Texts.{head_of, rest_of}
-use Rattle.flow_types.specs.Columns.{int_column}
+use Rattle.flow_types.specs.Columns.{stated_column}
 use Rattle.plain_where.specs.declared.expr.Expr.{Expr}
 use Rattle.plain_where.specs.Truths.{place_of}
 use Rattle.flow_types.specs.declared.fault.SchemaCause.{SchemaCause}
@@ -72,8 +72,8 @@ source_of s key grouped = record {
 -- the kind and the columns of a source
 abbrev pub typed_source : RawSource → Result (Kind × List Column) SchemaCause
 typed_source s = do
-  cols ← source_cols (names_in (map int_column s.columns)) s
-  Ok (kind.Source (source_of s cols.0 cols.1), map int_column s.columns)
+  cols ← source_cols (names_in (map stated_column s.columns)) s
+  Ok (kind.Source (source_of s cols.0 cols.1), map stated_column s.columns)
 
 -- those of a selection from these columns: its own has to be there
 abbrev pub typed_select : Expr → List Column → Result (Kind × List Column) SchemaCause

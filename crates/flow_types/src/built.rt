@@ -1,20 +1,23 @@
 // Which flows are built at this stage.
 ghost use Rattle.std.specs.Prelude.{◌≡◌, is_some};
-ghost use Rattle.std.specs.List.{list_all};
+ghost use Rattle.std.specs.List.{list_all, list_any};
 ghost use Rattle.flow_types.specs.Columns.{is_int_column};
-ghost use Rattle.flow_types.specs.Built.{is_csv, is_built_source, is_built_node, is_built};
+ghost use Rattle.flow_types.specs.Built.{is_csv, is_built_source, is_built_node, is_selection, has_ints, selects_ints, is_built};
 ghost use Rattle.flow_types.specs.NodeTexts.{text_of};
 
+use crate::column_texts::is_int_column;
 use tuple_schema::Text;
 use workflow_file::{RawFlow, RawNode, RawSource};
 
-/// Whether the flow is one that can be typed at this stage: a table without a key, sources of promise `seq` and of
-/// whole numbers in CSV files, which say nothing of a header, and selections by a plain `where` and projections,
-/// which declare nothing.
+/// Whether the flow is one that can be typed at this stage: a table without a key, sources of promise `seq` in CSV
+/// files, and selections by a plain `where` and projections, which declare nothing. Where there is a selection, all
+/// columns are `NAME int`.
+#[tactic(auto, unfolding(crate::specs::Built::is_built))]
 pub fn is_built(raw: &RawFlow) -> bool
     ensures { result ≡ is_built raw.now }
 {
     raw.table.key.is_none()
+        && selects_ints(raw)
         && are_built_sources(raw.sources.items())
         && are_built_nodes(raw.nodes.items())
 }
@@ -43,27 +46,43 @@ fn is_csv(format: &Option<Text>) -> bool
 fn is_built_source(source: &RawSource) -> bool
     ensures { result ≡ is_built_source source.now }
 {
-    is_csv(&source.format)
-        && source.header.is_none()
-        && source.promise.as_str() == "seq"
-        && are_int_columns(source.columns.items())
+    is_csv(&source.format) && source.promise.as_str() == "seq"
 }
 
-fn are_int_columns(texts: &[Text]) -> bool
-    ensures { result ≡ list_all is_int_column texts.now }
+// A plain `where` compares nothing but whole numbers.
+#[tactic(auto, unfolding(crate::specs::Built::selects_ints))]
+fn selects_ints(raw: &RawFlow) -> bool
+    ensures { result ≡ selects_ints raw.now }
 {
-    texts.iter().all(|text| is_int_column(text))
+    !has_selection(raw.nodes.items()) || have_ints(raw.sources.items())
 }
 
-// Whether the text is `NAME int`.
-#[tactic(auto, unfolding(tuple_schema::specs::Texts::rest_of))]
-fn is_int_column(text: &Text) -> bool
-    ensures { result ≡ is_int_column text.now }
+fn has_selection(nodes: &[RawNode]) -> bool
+    ensures { result ≡ list_any is_selection nodes.now }
 {
-    match text.as_str().split_once(' ') {
-        None => false,
-        Some((_, word)) => word == "int",
-    }
+    nodes.iter().any(|node| is_selection(node))
+}
+
+fn is_selection(node: &RawNode) -> bool
+    ensures { result ≡ is_selection node.now }
+{
+    node.kind.as_str() == "select"
+}
+
+fn have_ints(sources: &[RawSource]) -> bool
+    ensures { result ≡ list_all has_ints sources.now }
+{
+    sources.iter().all(|source| has_ints(source))
+}
+
+fn has_ints(source: &RawSource) -> bool
+    ensures { result ≡ has_ints source.now }
+{
+    source
+        .columns
+        .items()
+        .iter()
+        .all(|text| is_int_column(text.as_str()))
 }
 
 fn is_built_node(node: &RawNode) -> bool

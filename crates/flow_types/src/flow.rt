@@ -2,7 +2,6 @@
 ghost use Rattle.std.specs.Prelude.{◌≡◌, ◌==◌, Some, length, position, option_map, option_copied, IsSome, IfSome, IsTrue, All};
 ghost use Rattle.tuple_schema.specs.Stops.{Gives};
 ghost use Rattle.workflow_file.specs.Kept.{KeepsRules};
-ghost use Rattle.flow_types.specs.Columns.{IsInt};
 ghost use Rattle.flow_types.specs.Built.{is_built};
 ghost use Rattle.flow_types.specs.Typed.{typed};
 ghost use Rattle.flow_types.specs.Flows.{number_of, node_of, root_in, has_fixed_root, rank_of, IsBelow};
@@ -41,7 +40,6 @@ impl Flow {
     pub fn nodes(&self) -> &[Node]
         ensures same { result.now ≡ self.now.nodes }
         ensures flow { IsFlow self.now }
-        ensures ints { All (λ n. All IsInt n.schema) result.now }
         ensures fixed { IsTrue (has_fixed_root self.now.nodes) }
     {
         &self.nodes
@@ -54,10 +52,9 @@ impl Flow {
         self.root_node().id
     }
 
-    /// That node itself, whose columns are whole numbers.
+    /// That node itself.
     pub fn root_node(&self) -> &Node
         ensures last { Some result.now ≡ root_in self.now.nodes }
-        ensures ints { All IsInt result.now.schema }
         ensures flow { IsFlow self.now }
         ensures fixed { IsTrue (has_fixed_root self.now.nodes) }
     {

@@ -63,7 +63,7 @@ impl Inputs {
     }
 }
 
-/// A file of whole numbers, and how it lists its rows. Columns that may be absent are None exactly where they are.
+/// A file of rows, and how it lists them. Columns that may be absent are None exactly where they are.
 #[derive(Debug, Drop)]
 pub struct Source {
     pub file: Text,

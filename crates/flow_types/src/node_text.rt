@@ -20,6 +20,7 @@ pub enum NodeText<'r> {
 }
 
 /// What the node at a place says, sources first.
+#[tactic(auto, using(crate::proofs::KeptTexts::says_something))]
 pub fn text_at(alloc: Global, raw: &RawFlow, place: usize) -> Result<NodeText<'_>, Memory>
     requires place { place < length raw.now.sources + length raw.now.nodes }
     requires built { IsTrue (is_built raw.now) }

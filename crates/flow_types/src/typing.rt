@@ -4,7 +4,6 @@ ghost use Rattle.tuple_schema.specs.Stops.{Gives, GivesView, IfFault};
 ghost use Rattle.tuple_schema.specs.Texts.{head_of, rest_of};
 ghost use Rattle.workflow_file.specs.Kept.{KeepsRules, KeepsSource};
 ghost use Rattle.plain_where.specs.Truths.{place_of};
-ghost use Rattle.flow_types.specs.Columns.{int_column, IsInt};
 ghost use Rattle.flow_types.specs.Names.{names_in, no_double, no_unknown};
 ghost use Rattle.flow_types.specs.Trees.{tree_below, IsWhole};
 ghost use Rattle.flow_types.specs.Graph.{id_of, names_of, needs_of, links_of, inputs_exist, AreWithin};
@@ -15,6 +14,7 @@ ghost use Rattle.flow_types.specs.Typed.{new_name, renamed, output_columns, sour
 ghost use Rattle.flow_types.specs.Linked.{IsBuiltSource, Takes, KeepsText, IsOver, IsLinked};
 ghost use Rattle.flow_types.specs.Typing.{HasTree};
 
+use crate::column_texts::stated_columns;
 use crate::fault::{NodeId, SchemaCause, SchemaFault};
 use crate::graph::{Link, fault_at, inputs_below};
 use crate::names::{cols_if, names_in, no_double, place_of};
@@ -22,7 +22,7 @@ use crate::node::{Cols, Inputs, Kind, Node, Source};
 use crate::node_text::{NodeText, name_at, text_at};
 use plain_where::Expr;
 use std::alloc::Global;
-use tuple_schema::{Column, ColumnKind, Memory, Names, Schema, Stop, Text, rest_of};
+use tuple_schema::{Column, Memory, Names, Schema, Stop, Text, rest_of};
 use workflow_file::{RawFlow, RawSource};
 
 /// Puts the typed nodes of a tree behind the nodes, inputs first, and tells where its root stands; or the first fault.
@@ -41,9 +41,7 @@ pub fn type_tree(
     requires within { AreWithin links.now }
     requires place { place < length links.now }
     requires whole { IsWhole links.now depth place }
-    requires ints { All (λ n. All IsInt n.schema) nodes.old.items }
     ensures tree { IfOk result (HasTree raw.now (tree_below links.now depth place) nodes.old.items nodes.new.items) }
-    ensures ints { OnOk result (All (λ n. All IsInt n.schema) nodes.new.items) }
     ensures fault { IfFault result (λ fault. typed_tree raw.now (tree_below links.now depth place) ≡ Err fault) }
 {
     let mut roots = Vec::new(alloc);
@@ -70,7 +68,6 @@ fn type_over(
     requires place { place < length raw.now.sources + length raw.now.nodes }
     requires within { All (λ root. root < length nodes.now) roots.now }
     requires count { IfSome (text_at raw.now place) (λ text. length roots.now ≡ inputs_needed text) }
-    requires ints { All (λ n. All IsInt n.schema) nodes.now }
     ensures node { Gives result (at_node place (typed_node raw.now place
         (filter_map (slice_get nodes.now) roots.now))) }
     ensures linked { IfOk result (λ n. IsLinked n (filter_map (slice_get nodes.now) roots.now)) }
@@ -86,10 +83,8 @@ fn type_over(
 // The nodes at these places.
 fn nodes_at<'n>(alloc: Global, nodes: &'n [Node], places: &[usize]) -> Result<Vec<&'n Node>, Memory>
     requires within { All (λ place. place < length nodes.now) places.now }
-    requires ints { All (λ n. All IsInt n.schema) nodes.now }
     ensures nodes { IfOk result (λ v. map (λ n. n.now) v.items ≡ filter_map (slice_get nodes.now) places.now) }
     ensures len { IfOk result (λ v. vec_len v ≡ length places.now) }
-    ensures ints { IfOk result (λ v. All (λ n. All IsInt n.now.schema) v.items) }
 {
     let mut found = Vec::new(alloc);
     for place in places {
@@ -109,7 +104,6 @@ fn type_node(
     requires built { IsTrue (is_built raw.now) }
     requires place { place < length raw.now.sources + length raw.now.nodes }
     requires count { IfSome (text_at raw.now place) (λ text. length inputs.now ≡ inputs_needed text) }
-    requires ints { All (λ n. All IsInt n.now.schema) inputs.now }
     ensures node { Gives result (typed_node raw.now place (map (λ n. n.now) inputs.now)) }
     ensures linked { IfOk result (λ n. IsLinked n (map (λ n. n.now) inputs.now)) }
 {
@@ -159,11 +153,9 @@ fn type_text(
 ) -> Result<Typed, Stop<SchemaCause>>
     requires kept { KeepsText (text_seen text) }
     requires count { length inputs.now ≡ inputs_needed (text_seen text) }
-    requires ints { All (λ n. All IsInt n.now.schema) inputs.now }
     ensures typed { GivesView (λ t. (t.kind, t.schema)) result (typed_text (text_seen text.entry)
         (columns_of (map (λ n. n.now) inputs.now))) }
     ensures over { IfOk result (λ t. IsOver t.kind (columns_of (map (λ n. n.now) inputs.now)) t.schema) }
-    ensures ints { IfOk result (λ t. All IsInt t.schema) }
 {
     match text {
         NodeText::Source(source) => type_source(alloc, source),
@@ -177,9 +169,8 @@ fn type_source(alloc: Global, source: &RawSource) -> Result<Typed, Stop<SchemaCa
     requires built { IsTrue (is_built_source source.now) }
     ensures typed { GivesView (λ t. (t.kind, t.schema)) result (typed_source source.now) }
     ensures over { IfOk result (λ t. IsOver t.kind [] t.schema) }
-    ensures ints { IfOk result (λ t. All IsInt t.schema) }
 {
-    let columns = int_columns(alloc, source.columns.items())?;
+    let columns = stated_columns(alloc, source.columns.items())?;
     let (key, grouped) = source_cols(alloc, &columns, source)?;
     Ok(Typed {
         kind: Kind::Source(source_of(source, key, grouped)?),
@@ -212,31 +203,9 @@ fn is_word(text: &Option<Text>, word: &str) -> bool
     }
 }
 
-fn int_columns(alloc: Global, texts: &[Text]) -> Result<Vec<Column>, Memory>
-    ensures { IfOk result (λ v. v.items ≡ map int_column texts.now) }
-{
-    let mut columns = Vec::new(alloc);
-    for text in texts {
-        columns.push(int_column(alloc, text)?)?;
-    }
-    Ok(columns)
-}
-
-// The column of `NAME int`.
-fn int_column(alloc: Global, text: &Text) -> Result<Column, Memory>
-    ensures { IfOk result (λ c. c ≡ int_column text.now) }
-{
-    let name = head_of(alloc, text)?;
-    Ok(Column {
-        name,
-        kind: ColumnKind::Int,
-        nullable: false,
-    })
-}
-
-// What stands before the first space, or the whole text where it has none.
+/// What stands before the first space, or the whole text where it has none.
 #[tactic(auto, unfolding(tuple_schema::specs::Texts::head_of))]
-fn head_of(alloc: Global, text: &Text) -> Result<Text, Memory>
+pub fn head_of(alloc: Global, text: &Text) -> Result<Text, Memory>
     ensures { IfOk result (λ t. t ≡ head_of text.now) }
 {
     match text.as_str().split_once(' ') {
@@ -273,10 +242,8 @@ fn source_cols(
 }
 
 fn type_select(alloc: Global, test: Expr, input: &Schema) -> Result<Typed, Stop<SchemaCause>>
-    requires { All IsInt input.now }
     ensures typed { GivesView (λ t. (t.kind, t.schema)) result (typed_select test input.now) }
     ensures over { IfOk result (λ t. IsOver t.kind (input.now ∷ []) t.schema) }
-    ensures ints { IfOk result (λ t. All IsInt t.schema) }
 {
     find_column(alloc, input.columns(), &test.column)?;
     let columns = copied(alloc, input.columns())?;
@@ -312,10 +279,8 @@ fn find_column(alloc: Global, columns: &[Column], name: &Text) -> Result<(), Sto
 fn type_project(alloc: Global, texts: &[Text], input: &Schema) -> Result<Typed, Stop<SchemaCause>>
     requires some { 1 ≤ length texts.now }
     requires few { length texts.now ≤ 64 }
-    requires ints { All IsInt input.now }
     ensures typed { GivesView (λ t. (t.kind, t.schema)) result (typed_project texts.now input.now) }
     ensures over { IfOk result (λ t. IsOver t.kind (input.now ∷ []) t.schema) }
-    ensures ints { IfOk result (λ t. All IsInt t.schema) }
 {
     let taken = projection(alloc, input.columns(), texts)?;
     Ok(Typed {
@@ -328,7 +293,6 @@ fn type_project(alloc: Global, texts: &[Text], input: &Schema) -> Result<Typed, 
 
 // The places of the columns that are taken, and the columns that come of them.
 fn projection(alloc: Global, columns: &[Column], texts: &[Text]) -> Result<Taken, Stop<SchemaCause>>
-    requires { All IsInt columns.now }
     ensures taken { GivesView (λ t. (t.places.items, t.columns.items)) result (projection columns.now texts.now) }
     ensures distinct { IfOk result (λ t. no_double (names_in t.columns.items) ≡ Ok tt) }
     ensures takes { IfOk result (λ t. Takes columns.now t.places.items t.columns.items) }
@@ -360,7 +324,6 @@ fn take_columns(
     columns: &[Column],
     texts: &[Text],
 ) -> Result<Taken, Stop<SchemaCause>>
-    requires { All IsInt columns.now }
     ensures unknown { GivesView (λ _. tt) result (no_unknown (names_in columns.now) (map head_of texts.now)) }
     ensures places { IfOk result (λ t. t.places.items ≡ filter_map (place_of (names_in columns.now))
         (map head_of texts.now)) }

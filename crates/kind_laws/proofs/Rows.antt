@@ -1,17 +1,15 @@
--- Rows of whole numbers, and their parts.
-use Rattle.std.proofs.Common.{◌≡◌, ◌∙◌, ℕ, ℤ, zero, suc, ◌+◌, ◌<◌, List, [], ◌∷◌, ◌++◌, length, length-append, slice_get, All, Bool, true, false, ◌&&◌, Some, refl, ap, subst, arith}
-use Rattle.std.proofs.lemmas.List.Elements.{All-nil, All-head, All-tail, All-weaker, All-map, All-filter}
+-- Rows that fit, and their parts.
+use Rattle.std.proofs.Common.{◌≡◌, ◌∙◌, ℕ, zero, suc, ◌+◌, ◌<◌, List, [], ◌∷◌, ◌++◌, length, length-append, slice_get, All, Bool, true, false, ◌&&◌, Some, refl, ap, subst, arith}
+use Rattle.std.proofs.lemmas.List.Elements.{All-nil, All-weaker, All-map, All-filter}
+use Rattle.std.proofs.lemmas.Option.{same_Some}
+use Rattle.std.specs.List.{AllZip}
 use Rattle.tuple_schema.specs.declared.value.Value.{Value}
-use Rattle.tuple_schema.specs.declared.value.Value.TheVariants as value
 use Rattle.tuple_schema.specs.declared.schema.Column.{Column}
-use Rattle.tuple_schema.specs.declared.schema.ColumnKind.{ColumnKind}
-use Rattle.tuple_schema.specs.declared.schema.ColumnKind.TheVariants as kind
 use Rattle.tuple_schema.specs.Schemas.{Fits, fits, is_of}
 use Rattle.tuple_schema.specs.Tuples.{part}
-use Rattle.flow_types.specs.Columns.{IsInt}
 use Rattle.flow_types.specs.declared.node.Node.{Node}
 use Rattle.flow_types.specs.Flows.{columns_in, columns_of}
-use Rattle.flow_types.specs.Linked.{Takes, IsOver}
+use Rattle.flow_types.specs.Linked.{IsTaken, Takes, IsOver}
 use Rattle.plain_where.specs.Truths.{truth_of}
 use Rattle.flow_types.specs.declared.node.Kind.{Kind}
 use Rattle.flow_types.specs.declared.node.Kind.TheVariants as node
@@ -33,41 +31,30 @@ fits-length [] (v ∷ row) fit = cc
 fits-length (c ∷ columns) [] fit = cc
 fits-length (c ∷ columns) (v ∷ row) fit = ap suc (fits-length columns row (and-right _ _ fit))
 
--- a value of a column of whole numbers that are always there is one
-int_of : (k : ColumnKind) (nullable : Bool) (v : Value) → k ≡ kind.Int → nullable ≡ false → is_of k nullable v ≡ true → (n : ℤ) × (v ≡ value.Int n)
-int_of kind.Int nullable value.Null int never fit = let no : nullable ≡ true = fit in cc
-int_of kind.Int nullable (value.Int n) int never fit = (n, refl)
-int_of kind.Int nullable (value.Dec n) int never fit = cc
-int_of kind.Int nullable (value.Text text) int never fit = cc
-int_of (kind.Dec scale) nullable v int never fit = cc
-int_of kind.Text nullable v int never fit = cc
+-- the value at a place is of the column there
+pub value_at : (columns : List Column) (row : List Value) (place : ℕ) (c : Column) → slice_get columns place ≡ Some c → fits columns row ≡ true
+    → (v : Value) × (slice_get row place ≡ Some v) × (is_of c.kind c.nullable v ≡ true)
+value_at [] row place c at fit = absurd cc
+value_at (x ∷ columns) [] place c at fit = absurd cc
+value_at (x ∷ columns) (v ∷ row) zero c at fit =
+    let same : x ≡ c = same_Some _ _ at in
+    (v, refl, rw (← same) (and-left _ _ fit))
+value_at (x ∷ columns) (v ∷ row) (suc place) c at fit = value_at columns row place c at (and-right _ _ fit)
 
--- the value at a place of such columns is a whole number
-pub int_at : (columns : List Column) (row : List Value) (place : ℕ) → All IsInt columns → fits columns row ≡ true → place < length columns
-    → (n : ℤ) × (slice_get row place ≡ Some (value.Int n))
-int_at [] row place ints fit small = absurd (omega arith)
-int_at (c ∷ columns) [] place ints fit small = cc
-int_at (c ∷ columns) (v ∷ row) zero ints fit small =
-    let int = All-head IsInt c columns ints in
-    let is = int_of c.kind c.nullable v int.0 int.1 (and-left _ _ fit) in
-    (is.0, ap Some is.1)
-int_at (c ∷ columns) (v ∷ row) (suc place) ints fit small =
-    int_at columns row place (All-tail IsInt c columns ints) (and-right _ _ fit) (omega arith)
+-- the part of a row at these places fits the columns that are taken there
+pub part_fits : (columns output : List Column) (from : List ℕ) (row : List Value) → AllZip (IsTaken columns) from output → fits columns row ≡ true
+    → fits output (part row from) ≡ true
+part_fits columns [] [] row taken fit = refl
+part_fits columns [] (p ∷ from) row taken fit = absurd taken
+part_fits columns (c ∷ output) [] row taken fit = absurd taken
+part_fits columns (c ∷ output) (p ∷ from) row taken fit =
+    let one = taken.0 in
+    let is = value_at columns row p one.of one.at fit in
+    let fine : is_of c.kind c.nullable is.0 ≡ true = rw (one.kind, one.nullable) is.2 in
+    let others = part_fits columns output from row taken.1 fit in
+    rw (is.1, fine) others
 
--- the part of a row at places of such columns fits as many such columns
-pub part_fits : (columns output : List Column) (from : List ℕ) (row : List Value) → All IsInt columns → All IsInt output → fits columns row ≡ true
-    → All (λ place. place < length columns) from → length output ≡ length from → fits output (part row from) ≡ true
-part_fits columns [] [] row ints outs fit within each = refl
-part_fits columns [] (p ∷ from) row ints outs fit within each = cc
-part_fits columns (c ∷ output) [] row ints outs fit within each = cc
-part_fits columns (c ∷ output) (p ∷ from) row ints outs fit within each =
-    let small = All-head (λ place. place < length columns) p from within in
-    let is = int_at columns row p ints fit small in
-    let out = All-head IsInt c output outs in
-    let others = part_fits columns output from row ints (All-tail IsInt c output outs) fit (All-tail (λ place. place < length columns) p from within) (omega arith) in
-    rw (is.1, out.0) others
-
--- rows of such columns have the places of a projection
+-- rows that fit have the places of a projection
 pub places_within : (columns : List Column) (from : List ℕ) (rows : List (List Value)) → All (λ place. place < length columns) from
     → All (λ row. Fits columns row) rows → All (λ row. All (λ place. place < length row) from) rows
 places_within columns from rows within fit =
@@ -76,11 +63,11 @@ places_within columns from rows within fit =
     rows fit
 
 -- the rows of a projection fit its columns
-pub projected_fit : (columns output : List Column) (from : List ℕ) (rows : List (List Value)) → All IsInt columns → All IsInt output
-    → Takes columns from output → All (λ row. Fits columns row) rows → All (λ row. Fits output row) (projected from rows)
-projected_fit columns output from rows ints outs is fit =
+pub projected_fit : (columns output : List Column) (from : List ℕ) (rows : List (List Value)) → Takes columns from output
+    → All (λ row. Fits columns row) rows → All (λ row. Fits output row) (projected from rows)
+projected_fit columns output from rows is fit =
     All-map (λ row. Fits output row) (λ row. part row from) rows
-    (All-weaker (λ row. Fits columns row) (λ row. Fits output (part row from)) (λ row fits. part_fits columns output from row ints outs fits is.within is.each) rows fit)
+    (All-weaker (λ row. Fits columns row) (λ row. Fits output (part row from)) (λ row fits. part_fits columns output from row is.each fits) rows fit)
 
 -- of one list the last is the only one
 pub only_last : (lists front : List (List (List Value))) (rows : List (List Value)) → lists ≡ front ++ rows ∷ [] → length lists ≡ 1 → list_in lists 0 ≡ rows
@@ -102,25 +89,21 @@ first_fit [] lists one fit = absurd (omega arith)
 first_fit (cols ∷ columns) [] one fit = absurd fit
 first_fit (cols ∷ columns) (rows ∷ lists) one fit = fit.0
 
-first_ints : (inputs : List Node) → length (columns_of inputs) ≡ 1 → All (λ input. All IsInt input.schema) inputs → All IsInt (columns_in (columns_of inputs) 0)
-first_ints [] one ints = absurd (omega arith)
-first_ints (n ∷ inputs) one ints = All-head (λ input. All IsInt input.schema) n inputs ints
-
 -- the rows that a node gives fit its columns
-over_fits : (inputs : List Node) (lists : List (List (List Value))) (columns : List Column) → All (λ input. All IsInt input.schema) inputs → All IsInt columns → FitAll (columns_of inputs) lists
+over_fits : (inputs : List Node) (lists : List (List (List Value))) (columns : List Column) → FitAll (columns_of inputs) lists
     → (k : Kind) → IsOver k (columns_of inputs) columns → All (Fits columns) (output_of k (columns_of inputs) lists)
-over_fits [] [] columns ints own fit (node.Source file) over = All-nil (Fits columns)
-over_fits [] (rows ∷ lists) columns ints own fit (node.Source file) over = absurd fit
-over_fits (n ∷ inputs) lists columns ints own fit (node.Source file) over = let none = ap length over.0 in absurd (omega arith)
-over_fits inputs lists columns ints own fit (node.Select test) over =
+over_fits [] [] columns fit (node.Source file) over = All-nil (Fits columns)
+over_fits [] (rows ∷ lists) columns fit (node.Source file) over = absurd fit
+over_fits (n ∷ inputs) lists columns fit (node.Source file) over = let none = ap length over.0 in absurd (omega arith)
+over_fits inputs lists columns fit (node.Select test) over =
     let one : length (columns_of inputs) ≡ 1 = ap length over.0 in
     let first : columns_in (columns_of inputs) 0 ≡ columns = ap (λ cs. columns_in cs 0) over.0 in
     rw (← first) (All-filter (λ row. is_true (truth_of test (columns_in (columns_of inputs) 0) row)) (Fits (columns_in (columns_of inputs) 0)) (list_in lists 0) (first_fit (columns_of inputs) lists one fit))
-over_fits inputs lists columns ints own fit (node.Project from) over =
-    projected_fit (columns_in (columns_of inputs) 0) columns from (list_in lists 0) (first_ints inputs over.0 ints) own over.1 (first_fit (columns_of inputs) lists over.0 fit)
+over_fits inputs lists columns fit (node.Project from) over =
+    projected_fit (columns_in (columns_of inputs) 0) columns from (list_in lists 0) over.1 (first_fit (columns_of inputs) lists over.0 fit)
 
 pub output_fits : (n : Node) (inputs : List Node) (lists : List (List (List Value))) → CanTake n inputs lists → All (Fits n.schema) (output_of n.kind (columns_of inputs) lists)
-output_fits n inputs lists takes = over_fits inputs lists n.schema takes.ints takes.linked.ints takes.fit n.kind takes.linked.over
+output_fits n inputs lists takes = over_fits inputs lists n.schema takes.fit n.kind takes.linked.over
 
 -- what a projection takes has the places
 pub project_within : (n : Node) (inputs : List Node) (lists : List (List (List Value))) (from : List ℕ) → CanTake n inputs lists → n.kind ≡ node.Project from

@@ -7,7 +7,6 @@ use Rattle.std.proofs.lemmas.Option.{same_Some}
 use Rattle.tuple_schema.specs.Schemas.{Fits}
 use Rattle.list_algebra.specs.Bags.{Tuple}
 use Rattle.list_algebra.specs.Trees.{Tree, node, root_of, roots_of, trees_of, with_node, trees_in, EachNext}
-use Rattle.flow_types.specs.Columns.{IsInt}
 use Rattle.flow_types.specs.declared.node.Kind.{Kind}
 use Rattle.flow_types.specs.declared.node.Kind.TheVariants as kind
 use Rattle.flow_types.specs.declared.node.Node.{Node}
@@ -26,19 +25,13 @@ lists-list : (truth : Lists) (trees : List (Tree Node)) → lists_of truth (tree
 lists-list truth [] = refl
 lists-list truth (t ∷ trees) = ap (λ ls. list_of truth t ∷ ls) (lists-list truth trees)
 
--- a tree's root has columns of whole numbers, and the tree's list fits them
+-- a tree's list fits the columns of its root
 pub record IsFine (truth : Lists) (t : Tree Node) : Type 0 where
-  pub ints : All IsInt (root_of t).schema
   pub fit : All (Fits (root_of t).schema) (list_of truth t)
 
 fit_lists : (truth : Lists) (trees : List (Tree Node)) → All (IsFine truth) trees → FitAll (columns_of (map root_of trees)) (map (list_of truth) trees)
 fit_lists truth [] fine = tt
 fit_lists truth (t ∷ trees) fine = ((All-head (IsFine truth) t trees fine).fit, fit_lists truth trees (All-tail (IsFine truth) t trees fine))
-
-ints_of : (truth : Lists) (trees : List (Tree Node)) → All (IsFine truth) trees → All (λ n. All IsInt n.schema) (map root_of trees)
-ints_of truth [] fine = All-nil (λ n. All IsInt n.schema)
-ints_of truth (t ∷ trees) fine =
-    All-cons (λ n. All IsInt n.schema) (root_of t) (map root_of trees) (All-head (IsFine truth) t trees fine).ints (ints_of truth trees (All-tail (IsFine truth) t trees fine))
 
 module _ (truth : Lists) (n : Node) (trees : List (Tree Node)) (linked : IsLinkedOver n (trees_of trees)) (fine : All (IsFine truth) trees) where
   over : IsLinked n (map root_of trees)
@@ -46,7 +39,7 @@ module _ (truth : Lists) (n : Node) (trees : List (Tree Node)) (linked : IsLinke
 
   -- what stands below a node it can take
   pub can_take : CanTake n (map root_of trees) (map (list_of truth) trees)
-  can_take = record { linked = over; ints = ints_of truth trees fine; fit = fit_lists truth trees fine }
+  can_take = record { linked = over; fit = fit_lists truth trees fine }
 
   -- a source stands over nothing, and its list is its own
   pub own_list : (file : _) → n.kind ≡ kind.Source file → list_of truth (node n (trees_of trees)) ≡ truth n
@@ -84,13 +77,11 @@ module _ (truth : Lists) (n : Node) (trees : List (Tree Node)) (linked : IsLinke
 
   pub fine_own : (file : _) → n.kind ≡ kind.Source file → OwnFit n.kind n.schema (truth n) → IsFine truth (node n (trees_of trees))
   fine_own file is own = record {
-    ints = over.ints;
     fit = rw (own_list file is) (subst (λ k. OwnFit k n.schema (truth n)) is own);
   }
 
   pub fine_made : ((file : _) → n.kind ≡ kind.Source file → ⊥) → IsFine truth (node n (trees_of trees))
   fine_made no_source = record {
-    ints = over.ints;
     fit = rw (made_list no_source) (output_fits n (map root_of trees) (map (list_of truth) trees) can_take);
   }
 

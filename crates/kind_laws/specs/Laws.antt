@@ -4,7 +4,6 @@ use Rattle.std.specs.List.{AllZip}
 use Rattle.tuple_schema.specs.declared.schema.Column.{Column}
 use Rattle.tuple_schema.specs.Schemas.{Fits}
 use Rattle.list_algebra.specs.Bags.{Tuple}
-use Rattle.flow_types.specs.Columns.{IsInt}
 use Rattle.flow_types.specs.declared.node.Kind.{Kind}
 use Rattle.flow_types.specs.declared.node.Kind.TheVariants as kind
 use Rattle.flow_types.specs.declared.node.Node.{Node}
@@ -19,7 +18,6 @@ FitAll columns lists = AllZip (λ cols rows. All (Fits cols) rows) columns lists
 -- a node over these inputs takes these lists, whose rows fit the inputs' columns
 pub record CanTake (n : Node) (inputs : List Node) (lists : List (List Tuple)) : Type 0 where
   pub linked : IsLinked n inputs
-  pub ints : All (λ input. All IsInt input.schema) inputs
   pub fit : FitAll (columns_of inputs) lists
 
 -- the rows of a source's list fit its columns

@@ -3,7 +3,7 @@ use Rattle.std.proofs.lemmas.Result.{err_from_is_err_and}
 use Rattle.flow_types.specs.Trees.{tree_below, inputs_below}
 use Rattle.flow_types.proofs.Whole.{whole_below}
 use Rattle.flow_types.proofs.Needs.{count_below}
-use Rattle.flow_types.proofs.TypedTrees.{no_trees_yet, trees_more, ints_behind, roots_within, tree_top, fault_top, fault_in, tree_ints_behind}
+use Rattle.flow_types.proofs.TypedTrees.{no_trees_yet, trees_more, roots_within, tree_top, fault_top, fault_in}
 use Rattle.flow_types.proofs.typing.+type_tree.Goals as goal
 
 pub loop-input-init : goal.loop-input-init
@@ -42,10 +42,7 @@ type_tree-requires t c =
                 c.requires.within,
                 (
                   c.inputs_below-input-items.ensures.within c.requires.within i 0 c.loop-input-test.true,
-                  (
-                    whole,
-                    ints_behind c.args.raw.now _ c.args.nodes.now.items c.loop-input.nodes.items c.loop-input.roots.items c.loop-input.invariant.trees c.requires.ints,
-                  ),
+                  whole,
                 ),
               ),
             ),
@@ -72,10 +69,6 @@ type_over-requires-clause-count t c =
     rw c.deref-2.ensures.value
     (count_below c.args.raw.now c.args.links.now c.args.depth c.args.place (length c.loop-input.roots.items) c.requires.kept c.requires.built c.requires.there c.requires.links c.requires.place c.requires.whole count)
 
-pub type_over-requires-clause-ints : goal.type_over-requires-clause-ints
-type_over-requires-clause-ints t c =
-    rw c.deref.ensures.value (ints_behind c.args.raw.now _ c.args.nodes.now.items c.loop-input.nodes.items c.loop-input.roots.items c.loop-input.invariant.trees c.requires.ints)
-
 pub returns-in_err-node-clause-fault : goal.returns-in_err-node-clause-fault
 returns-in_err-node-clause-fault t c =
     let p = err_from_is_err_and c.from_residual-in_err-node.result c.from_residual-in_err-node.ensures.1 in
@@ -90,6 +83,3 @@ returns-clause-tree t c =
     let count : c.len-root.result ≡ length c.loop-input.nodes.items = omega (arith, c.len-root.ensures, c.loop-input.nodes.ok.0) in
     rw (c.in_ok-push-2.ensures.items, count)
     (tree_top c.args.raw.now c.args.links.now c.args.depth c.args.place c.inputs_below-input-items.result.now c.inputs_below-input-items.ensures.inputs c.loop-input.input-index c.args.nodes.now.items c.loop-input.nodes.items c.loop-input.roots.items c.loop-input-test.false c.loop-input.invariant.trees c.in_ok-node.node made linked)
-
-pub returns-clause-ints : goal.returns-clause-ints
-returns-clause-ints t c = tree_ints_behind c.args.raw.now _ c.args.nodes.now.items _ _ (returns-clause-tree t c) c.requires.ints

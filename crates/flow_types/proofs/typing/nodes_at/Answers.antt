@@ -1,9 +1,6 @@
-use Rattle.std.proofs.Common.{◌<◌, ◌∙◌, ◌∷◌, ◌++◌, [], ℕ, map, length, slice_get, get_or, All, sym, ap, refl, subst, arith}
+use Rattle.std.proofs.Common.{◌<◌, ◌∙◌, ◌∷◌, ◌++◌, [], ℕ, map, length, slice_get, get_or, sym, ap, refl, arith}
 use Rattle.std.proofs.lemmas.List.{map-append, get_or_default}
-use Rattle.std.proofs.lemmas.List.Elements.{All-push}
 use Rattle.std.proofs.lemmas.Option.{slice_get_read}
-use Rattle.flow_types.specs.declared.node.Node.{Node}
-use Rattle.flow_types.specs.Columns.{IsInt}
 use Rattle.flow_types.proofs.Lookups.{filter_more}
 use Rattle.flow_types.proofs.typing.nodes_at.Goals as goal
 
@@ -16,11 +13,9 @@ loop-place-preserved c =
     let n = c.index-nodes-place.result in
     let within : place < length nodes = c.requires.within i 0 c.loop-place-test.true in
     let at = slice_get_read nodes (length nodes) place n refl within c.index-nodes-place.is in
-    let int : All IsInt n.schema = subst (λ (m : Node). All IsInt m.schema) (sym c.index-nodes-place.is) (c.requires.ints place n within) in
     record {
       nodes =
           ap (map (λ m. m.now)) c.in_ok-push.ensures.items ∙ (map-append (λ m. m.now) c.loop-place.found.items _ ∙ (ap (λ ns. ns ++ n ∷ []) c.loop-place.invariant.nodes
           ∙ sym (filter_more (slice_get nodes) places i place n c.loop-place-test.true (get_or_default places i 0 place c.loop-place-test.true) (sym at))));
       len = omega (arith, c.in_ok-push.ensures.len, c.loop-place.invariant.len);
-      ints = rw c.in_ok-push.ensures.items (All-push (λ m. All IsInt m.now.schema) c.loop-place.found.items _ c.loop-place.invariant.ints int);
     }

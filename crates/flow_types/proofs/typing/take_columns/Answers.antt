@@ -2,12 +2,12 @@ use Rattle.std.proofs.Common.{◌≡◌, ◌<◌, Some, sym, ap, ◌∙◌, leng
 use Rattle.std.proofs.lemmas.List.{length-append, length-map}
 use Rattle.std.proofs.lemmas.List.Elements.{All-push}
 use Rattle.tuple_schema.specs.Texts.{head_of}
-use Rattle.flow_types.specs.Columns.{IsInt}
 use Rattle.plain_where.specs.Truths.{place_of}
 use Rattle.flow_types.specs.Names.{names_in}
 use Rattle.flow_types.specs.Typed.{new_name, renamed, output_column}
+use Rattle.flow_types.specs.Linked.{IsTaken}
 use Rattle.flow_types.proofs.Lookups.{found_more, known_more, filter_more}
-use Rattle.flow_types.proofs.Columns.{output_is}
+use Rattle.flow_types.proofs.Columns.{output_is, all_zip_push, is_taken}
 use Rattle.flow_types.proofs.typing.take_columns.Goals as goal
 
 pub loop-text-preserved : goal.loop-text-preserved
@@ -21,15 +21,14 @@ loop-text-preserved c =
     let counted : length c.in_ok-names.names.items ≡ length columns = simp length-map at (ap length c.in_ok-names.ensures) in
     let within : place < length columns = rw (c.deref.ensures.value, counted) at c.in_ok-place.ensures.within in
     let gives : c.in_ok-output.field-0 ≡ renamed (new_name text) column = c.in_ok-output.ensures in
-    let int : IsInt column = rw (← c.index-columns-place.is) at (c.requires place column within) in
     record {
       places = rw (c.in_ok-push-2.ensures.items, c.loop-text.invariant.places) (sym (found_more head_of (names_in columns) c.args.texts.now i place text c.loop-text-test.true c.text-item.is there));
       outputs = rw (c.in_ok-push.ensures.items, c.loop-text.invariant.outputs, gives) (sym (filter_more (output_column columns) c.args.texts.now i text (renamed (new_name text) column) c.loop-text-test.true c.text-item.is (output_is columns text place column there within c.index-columns-place.is)));
       known = c.loop-text.invariant.known ∙ known_more head_of (names_in columns) c.args.texts.now i place text c.loop-text-test.true c.text-item.is there;
       takes = record {
         within = rw c.in_ok-push-2.ensures.items (All-push (λ p. p < length columns) c.loop-text.places.items place c.loop-text.invariant.takes.within within);
-        each = rw (c.in_ok-push.ensures.items, c.in_ok-push-2.ensures.items, length-append c.loop-text.outputs.items, length-append c.loop-text.places.items) (omega (arith, c.loop-text.invariant.takes.each));
-        ints = rw c.in_ok-push.ensures.items (All-push IsInt c.loop-text.outputs.items c.in_ok-output.field-0 c.loop-text.invariant.takes.ints (rw gives int));
+        each = rw (c.in_ok-push.ensures.items, c.in_ok-push-2.ensures.items) (all_zip_push (IsTaken columns) c.loop-text.places.items c.loop-text.outputs.items place c.in_ok-output.field-0 c.loop-text.invariant.takes.each
+            (is_taken columns place column c.in_ok-output.field-0 (new_name text) gives within c.index-columns-place.is));
       };
       len = rw (c.in_ok-push.ensures.items, length-append) (omega (arith, c.loop-text.invariant.len));
     }

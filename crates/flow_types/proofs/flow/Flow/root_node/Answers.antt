@@ -1,7 +1,7 @@
 use Rattle.std.proofs.Common.{◌≡◌, ◌-◌, length, Some, sym, refl, arith}
 use Rattle.std.proofs.lemmas.Option.{slice_get_read}
 use Rattle.flow_types.specs.Flows.{root_in}
-use Rattle.flow_types.proofs.FlowTrees.{some_nodes, root_ints, fixed_root}
+use Rattle.flow_types.proofs.FlowTrees.{some_nodes, fixed_root}
 use Rattle.flow_types.proofs.flow.Flow.root_node.Goals as goal
 
 pub overflow_sub-len : goal.overflow_sub-len
@@ -19,9 +19,6 @@ at c =
 
 pub returns-clause-last : goal.returns-clause-last
 returns-clause-last c = rw (← c.self.view_is) (sym (at c))
-
-pub returns-clause-ints : goal.returns-clause-ints
-returns-clause-ints c = root_ints _ c.self.invariant c.index.result.now (at c)
 
 pub returns-clause-fixed : goal.returns-clause-fixed
 returns-clause-fixed c = rw (← c.self.view_is) (fixed_root _ c.self.invariant)
