@@ -5,3 +5,5 @@
 
 #[cfg(test)]
 mod flow_file;
+#[cfg(test)]
+mod typed_flow;

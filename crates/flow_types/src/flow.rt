@@ -154,6 +154,3 @@ pub fn type_flow(alloc: Global, raw: &RawFlow) -> Result<Flow, Stop<SchemaFault>
     type_tree(alloc, raw, &graph.links, depth, graph.root, &mut nodes)?;
     Ok(Flow { nodes, key: None })
 }
-
-#[cfg(test)]
-mod tests;

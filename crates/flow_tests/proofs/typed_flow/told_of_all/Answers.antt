@@ -1,6 +1,6 @@
 use Rattle.std.proofs.Common.{length, refl}
 use Rattle.std.proofs.lemmas.Option.{slice_get_read}
-use Rattle.flow_types.proofs.flow.tests.told_of_all.Goals as goal
+use Rattle.flow_tests.proofs.typed_flow.told_of_all.Goals as goal
 
 pub told_of-requires : goal.told_of-requires
 told_of-requires c =
