@@ -13,6 +13,8 @@
 #![tactic(auto)]
 
 mod carry;
+#[cfg(test)]
+mod column_tests;
 mod find;
 mod flow;
 mod laws;

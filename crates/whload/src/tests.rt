@@ -244,7 +244,11 @@ const REFUSED: [(&str, &str, &str); 10] = [
     ),
     (INTS, "table = 7\n", "3||whload: flow.toml is not TOML\n"),
     (INTS, SORT, "3||whload: flow.toml is not built yet\n"),
-    ("\"a text\"", "", "3||whload: flow.toml is not built yet\n"),
+    (
+        "\"a int\", \"b text\"",
+        "node = [ { name = \"big\", kind = \"select\", input = \"nums\", where = \"a > 1\" } ]\n",
+        "3||whload: flow.toml is not built yet\n",
+    ),
 ];
 
 #[test]
