@@ -1,5 +1,5 @@
 // Worked tables. Each has the flow text `x`, so that its first gate stands at 17.
-ghost use Rattle.std.specs.Prelude.{◌≡◌, ◌<◌, length, IfOk, true, false};
+ghost use Rattle.std.specs.Prelude.{◌≡◌, ◌≤◌, ◌<◌, length, IfOk, true, false};
 ghost use Rattle.outside.specs.MemoryDisk.{file_of};
 
 use crate::{next_block, verify};
@@ -129,57 +129,45 @@ fn a_block_takes_two_reads(rt: HostRuntime) -> Result<(), Fail> {
     Ok(())
 }
 
-#[test]
-fn blocks_are_read_one_after_the_other(rt: HostRuntime) -> Result<(), Fail> {
-    let alloc = rt.alloc();
+// What reading the block at that gate of the two blocks answers, and the batch.
+fn read_at(alloc: Global, at: u64) -> Result<(Result<Option<u64>, Stop<TableFault>>, Batch), Fail>
+    requires { at ≤ 64 }
+{
     let mut disk = MemoryDisk::new(alloc, &[])?;
     let journal = two_blocks(alloc, &mut disk)?;
     let mut batch = Batch::new(alloc, &one_int(alloc)?)?;
-    assert_eq!(rt;
-        next_block(alloc, &mut disk, &journal, 17, &mut batch),
-        Ok(Some(45))
-    );
+    let answer = next_block(alloc, &mut disk, &journal, at, &mut batch);
+    Ok((answer, batch))
+}
+
+#[test]
+fn blocks_are_read_one_after_the_other(rt: HostRuntime) -> Result<(), Fail> {
+    let alloc = rt.alloc();
+    let (next, batch) = read_at(alloc, 17)?;
+    assert_eq!(rt; next, Ok(Some(45)));
     assert_eq!(rt;
         batch.bytes(),
         b"\x01\0\0\0\0\0\0\0\x05\x01\0\0\0\0\0\0\0\x06".as_slice()
     );
-    batch.clear();
-    assert_eq!(rt;
-        next_block(alloc, &mut disk, &journal, 45, &mut batch),
-        Ok(Some(64))
-    );
+    let (next, batch) = read_at(alloc, 45)?;
+    assert_eq!(rt; next, Ok(Some(64)));
     assert_eq!(rt;
         batch.bytes(),
         b"\x01\xff\xff\xff\xff\xff\xff\xff\xff".as_slice()
     );
-    batch.clear();
-    assert_eq!(rt;
-        next_block(alloc, &mut disk, &journal, 64, &mut batch),
-        Ok(None)
-    );
+    let (next, batch) = read_at(alloc, 64)?;
+    assert_eq!(rt; next, Ok(None));
     assert_eq!(rt; batch.len(), 0);
     Ok(())
 }
 
 #[test]
-fn the_end_block_has_no_rows(rt: HostRuntime) -> Result<(), Fail> {
+fn a_place_that_is_no_gate_has_no_block(rt: HostRuntime) -> Result<(), Fail> {
     let alloc = rt.alloc();
-    let mut disk = MemoryDisk::new(alloc, &[])?;
-    let mut journal = two_blocks(alloc, &mut disk)?;
-    journal.end(&mut disk)?;
-    let mut batch = Batch::new(alloc, &one_int(alloc)?)?;
-    assert_eq!(rt;
-        next_block(alloc, &mut disk, &journal, 64, &mut batch),
-        Ok(Some(74))
-    );
-    assert_eq!(rt; batch.len(), 0);
-    batch.clear();
-    // No block has its gate behind the first byte of another.
-    let at = 18;
-    assert_eq!(rt;
-        next_block(alloc, &mut disk, &journal, at, &mut batch),
-        Err(Stop::Fault(TableFault::NotATable { at }))
-    );
+    for at in [18, 46, 63] {
+        let (next, _) = read_at(alloc, at)?;
+        assert_eq!(rt; next, Err(Stop::Fault(TableFault::NotATable { at })));
+    }
     Ok(())
 }
 
