@@ -7,7 +7,7 @@ mod rows;
 use flow_types::{
     Cols, Flow, Kind, NodeId, SchemaCause, SchemaFault, Source, is_built, tree_laws, type_flow,
 };
-use rows::{BUILT, COLUMNS, NAMES, ORDERS, TYPED};
+use rows::{BUILT, COLUMNS, NAMES, ORDERS, Row, TYPED};
 use std::alloc::Global;
 use std::test::Fail;
 use tuple_schema::{Column, ColumnKind, Stop};
@@ -98,21 +98,45 @@ fn fault_line(alloc: Global, fault: &SchemaFault) -> Result<String, Fail> {
     Ok(format!(in alloc; "{}: {}", place.as_str(), what.as_str())?)
 }
 
-#[test]
-fn each_flow_is_typed_or_has_its_fault(rt: HostRuntime) -> Result<(), Fail> {
-    for rows in [
-        TYPED.as_slice(),
-        BUILT.as_slice(),
-        NAMES.as_slice(),
-        COLUMNS.as_slice(),
-        ORDERS.as_slice(),
-    ] {
-        for (root, sources, nodes, want) in rows {
-            let text = flow_text(rt.alloc(), root, sources, nodes)?;
-            let got = answer(rt.alloc(), text.as_bytes())?;
-            assert_eq!(rt; got.as_str(), *want, "for {}", text.as_str());
+// The first row with another answer: its text, and that answer.
+fn first_other(alloc: Global, rows: &[Row]) -> Result<Option<(String, String)>, Fail> {
+    for (root, sources, nodes, want) in rows {
+        let text = flow_text(alloc, root, sources, nodes)?;
+        let got = answer(alloc, text.as_bytes())?;
+        if got.as_str() != *want {
+            return Ok(Some((text, got)));
         }
     }
+    Ok(None)
+}
+
+#[test]
+fn flows_are_typed_from_the_source_on(rt: HostRuntime) -> Result<(), Fail> {
+    assert_eq!(rt; first_other(rt.alloc(), &TYPED)?, None);
+    Ok(())
+}
+
+#[test]
+fn columns_are_of_every_kind(rt: HostRuntime) -> Result<(), Fail> {
+    assert_eq!(rt; first_other(rt.alloc(), &BUILT)?, None);
+    Ok(())
+}
+
+#[test]
+fn names_have_to_fit_together(rt: HostRuntime) -> Result<(), Fail> {
+    assert_eq!(rt; first_other(rt.alloc(), &NAMES)?, None);
+    Ok(())
+}
+
+#[test]
+fn columns_have_to_be_there_once(rt: HostRuntime) -> Result<(), Fail> {
+    assert_eq!(rt; first_other(rt.alloc(), &COLUMNS)?, None);
+    Ok(())
+}
+
+#[test]
+fn the_first_of_two_faults_is_told(rt: HostRuntime) -> Result<(), Fail> {
+    assert_eq!(rt; first_other(rt.alloc(), &ORDERS)?, None);
     Ok(())
 }
 
