@@ -15,7 +15,7 @@ use Rattle.commit_disk.specs.Growth.{grows_still, nothing_lost}
 use Rattle.table_read.specs.Rows.{table_rows}
 use Rattle.table_write.specs.Cut.{cut, together}
 use Rattle.table_write.specs.Adds.{with_blocks, AllHaveRoom, IsFullBehind}
-use Rattle.table_write.specs.Rows.{HoldsRows}
+use Rattle.table_write.specs.Rows.{HasRows, HoldsRows}
 use Rattle.flow_types.specs.declared.node.Node.{Node}
 use Rattle.flow_types.specs.Flows.{root_in, has_fixed_root}
 use Rattle.load_runner.specs.declared.fault.LoadFault.{LoadFault}
@@ -23,7 +23,7 @@ use Rattle.load_runner.specs.declared.fault.SourceFault.{SourceFault}
 use Rattle.load_runner.specs.declared.fault.LoadFault.TheVariants as fault
 use Rattle.load_runner.specs.declared.report.Report.{Report}
 use Rattle.load_runner.specs.Faults.{IsTableFault}
-use Rattle.load_runner.specs.Found.{State, rows, wrong, other, IsFound}
+use Rattle.load_runner.specs.Found.{State, unmade, rows, wrong, other, IsFound}
 use Rattle.load_runner.specs.Jobs.{Job, Answer, columns_of, run_blocks, IsMade, missing_blocks}
 use Rattle.load_runner.specs.Loads.{IsNextGate, IsComplete, IsFull, StoppedAdding, Leaves, AddsTo, FailsOutside, Does, RestsOn, Loads}
 use Rattle.load_runner.specs.Reports.{ended_report, skip_report}
@@ -71,12 +71,10 @@ spared_leaves : (job : Job) (told : Option Files) (had : List (List Value)) (sto
 spared_leaves job told had stored gate disk now answer spares (inl memory) = rw memory spares
 spared_leaves job told had stored gate disk now answer spares (inr failed) = rw failed (inl spares)
 
--- whatever the file is found to be, want of memory and a failed disk may be answered
-outside_does : (job : Job) (depot : DepotState) (disk now : DiskState) (answer : Answer) → Spares disk now → FailsOutside answer → (state : State) → IsFound disk.file job.text (columns_of job) state
-    → Does job depot depot disk now answer state
-outside_does job depot disk now answer spares out (rows had true) found = record { unread = refl; spares = spares; answers = inr out }
-outside_does job depot disk now answer spares out (rows had false) found =
-    let stood = stood_of disk.file job.text (columns_of job) had found in
+outside_adds : (job : Job) (depot : DepotState) (disk now : DiskState) (answer : Answer) (had : List (List Value)) → Spares disk now → FailsOutside answer
+    → HoldsRows disk.file job.text (columns_of job) had false → AddsTo job depot.files had disk now answer
+outside_adds job depot disk now answer had spares out holds =
+    let stood = stood_of disk.file job.text (columns_of job) had holds in
     record {
       olds = stood.olds;
       decodes = stood.decodes;
@@ -85,8 +83,20 @@ outside_does job depot disk now answer spares out (rows had false) found =
       moments = inl spares.nothing_new;
       leaves = spared_leaves job depot.files had stood.olds stood.gate disk now answer spares out;
     }
+
+-- whatever the file is found to be, want of memory and a failed disk may be answered
+outside_does : (job : Job) (depot : DepotState) (disk now : DiskState) (answer : Answer) → Spares disk now → FailsOutside answer → (state : State) → IsFound disk.file job.text (columns_of job) state
+    → Does job depot depot disk now answer state
+outside_does job depot disk now answer spares out unmade found = outside_adds job depot disk now answer [] spares out (inr (found, refl, refl))
+outside_does job depot disk now answer spares out (rows had true) found = record { unread = refl; spares = spares; answers = inr out }
+outside_does job depot disk now answer spares out (rows had false) found = outside_adds job depot disk now answer had spares out (inl found)
 outside_does job depot disk now answer spares out (wrong place) found = record { unread = refl; spares = spares; answers = inr out }
 outside_does job depot disk now answer spares out other found = record { unread = refl; spares = spares; answers = inr out }
+
+-- an ended table is made
+made_rows : (image text : List ℕ) (columns : List Column) (had : List (List Value)) → HoldsRows image text columns had true → HasRows image text columns had true
+made_rows image text columns had (inl has) = has
+made_rows image text columns had (inr none) = absurd (let e = none.2 in cc)
 
 -- reading the table stopped
 abbrev stopped : Stop LoadFault → Result Attached (Stop LoadFault)
@@ -155,7 +165,7 @@ module _ (agree : VerdictsAgree) (once : HoldsOnce) (job : Job) (depot : DepotSt
       spared first ended (Ok report) elapses
       (λ is state found.
       let has = holds is in
-      subst (Does job depot depot disk now (Ok report)) (found_once agree once disk.file job.text (columns_of job) (rows has.0 true) state has.1 found)
+      subst (Does job depot depot disk now (Ok report)) (found_once agree once disk.file job.text (columns_of job) (rows has.0 true) state (made_rows disk.file job.text (columns_of job) has.0 has.1) found)
       (record { unread = refl; spares = spares; answers = inl (ap Ok has.2) }))
       tt
       (λ files told whole means is safe.
@@ -171,6 +181,16 @@ module _ (agree : VerdictsAgree) (once : HoldsOnce) (job : Job) (depot : DepotSt
       (subst (HoldsAll job.text (columns_of job) (has_fixed_root job.flow.nodes) whole) (sym (settled is).1) all) image left)
 
 -- Blocks were added.
+
+-- to a table that isn't ended, or to none that is made
+in_state : VerdictsAgree → HoldsOnce → (job : Job) (depot still : DepotState) (disk now : DiskState) (answer : Answer) (had : List (List Value))
+    → HoldsRows disk.file job.text (columns_of job) had false → AddsTo job depot.files had disk now answer
+    → (state : State) → IsFound disk.file job.text (columns_of job) state → Does job depot still disk now answer state
+in_state agree once job depot still disk now answer had (inl has) adds state found =
+    subst (Does job depot still disk now answer) (found_once agree once disk.file job.text (columns_of job) (rows had false) state has found) adds
+in_state agree once job depot still disk now answer had (inr none) adds state found =
+    subst (Does job depot still disk now answer) (found_once agree once disk.file job.text (columns_of job) unmade state none.0 found)
+    (subst (λ (rows : List (List Value)). AddsTo job depot.files rows disk now answer) none.1 adds)
 
 module _ (agree : VerdictsAgree) (once : HoldsOnce) (law : BlocksHold) (cuts : CutIs) (job : Job) (told : Option Files) (found_of : Attached) (old mid new : DiskState) (ran : Ran job told found_of old mid new)
     (can : CanResume job told) where
@@ -286,9 +306,9 @@ module _ (agree : VerdictsAgree) (once : HoldsOnce) (law : BlocksHold) (cuts : C
       → (IsUnwritten answer → Spares old new) → ((place : ℕ) → answer ≢ Err (Fault (fault.NotATable place))) → answer ≢ Err (Fault fault.WorkflowDiffers)
       → (state : State) → IsFound old.file job.text (columns_of job) state → Does job depot still old new answer state
   went_on some depot still are answer root last done settled full_settled fills stops unwritten table flow state found =
-      subst (Does job depot still old new answer)
-      (found_once agree once old.file job.text (columns_of job) (rows rows_of false) state (held agree once law job told found_of old mid new ran) found)
+      in_state agree once job depot still old new answer rows_of (held agree once law job told found_of old mid new ran)
       (subst (λ (o : Option Files). AddsTo job o rows_of old new answer) (sym are) (adding some answer root last done settled full_settled fills stops unwritten table flow))
+      state found
 
   -- and where it is complete, the table has all of the meaning
   pub all_held : 1 ≤ job.batch → MeansOne job told → IsTrue (has_fixed_root job.flow.nodes) → (files : Files) → told ≡ Some files → (whole : List (List Value)) → IsMeaning job.flow files whole

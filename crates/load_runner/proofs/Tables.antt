@@ -1,5 +1,5 @@
 -- Of an image and a text there is one table, and one list of rows.
-use Rattle.std.proofs.Common.{◌≡◌, inl, inr, ◌∙◌, ℕ, zero, suc, ◌+◌, List, [], ◌∷◌, ◌++◌, length, Bool, true, Result, Ok, Err, refl, sym, ap, length-append, arith}
+use Rattle.std.proofs.Common.{◌≡◌, inl, inr, ◌∙◌, ℕ, zero, suc, ◌+◌, List, [], ◌∷◌, ◌++◌, length, Bool, true, false, Result, Ok, Err, refl, sym, ap, length-append, arith}
 use Rattle.std.proofs.lemmas.List.Sums.{sum_by-cons}
 use Rattle.tuple_schema.specs.declared.value.Value.{Value}
 use Rattle.tuple_schema.specs.declared.schema.Column.{Column}
@@ -15,7 +15,7 @@ use Rattle.commit_disk.specs.Journal.{JournalState}
 use Rattle.commit_disk.specs.Attach.{TellsOf, VerdictsAgree, rows_in}
 use Rattle.table_read.specs.Rows.{or_place, no_rows_at, rows_at, block_rows, next_gate, table_rows}
 use Rattle.table_write.specs.Rows.{HoldsRows}
-use Rattle.load_runner.specs.Found.{State, rows, wrong, other, IsFound}
+use Rattle.load_runner.specs.Found.{State, unmade, rows, wrong, other, IsFound, FoundOnce}
 
 -- what a reading that goes on has read first
 bind_ok : {A B F : Type 0} (first : Result A F) (next : A → Result B F) (b : B) → (first >>= next) ≡ Ok b → (a : A) × (first ≡ Ok a) × (next a ≡ Ok b)
@@ -128,14 +128,21 @@ module _ (agree : VerdictsAgree) (once : HoldsOnce) where
       cc
 
   -- an image is found to be one thing
-  pub found_once : (image text : List ℕ) (columns : List Column) (one two : State) → IsFound image text columns one → IsFound image text columns two → one ≡ two
+  pub found_once : FoundOnce
+  found_once image text columns unmade unmade is too = refl
+  found_once image text columns unmade (rows others stopped) is too = absurd (not_both image text too.blocks stopped too.holds is)
+  found_once image text columns unmade (wrong place) is too = absurd (rows_not_wrong image text columns [] false place (inr (is, refl, refl)) too)
+  found_once image text columns unmade other is too = absurd (rows_not_other image text columns [] false (inr (is, refl, refl)) too)
+  found_once image text columns (rows some ended) unmade is too = absurd (not_both image text is.blocks ended is.holds too)
   found_once image text columns (rows some ended) (rows others stopped) is too =
-      let same = rows_once image text columns some others ended stopped is too in cc
-  found_once image text columns (rows some ended) (wrong place) is too = absurd (rows_not_wrong image text columns some ended place is too)
-  found_once image text columns (rows some ended) other is too = absurd (rows_not_other image text columns some ended is too)
-  found_once image text columns (wrong place) (rows some ended) is too = absurd (rows_not_wrong image text columns some ended place too is)
+      let same = rows_once image text columns some others ended stopped (inl is) (inl too) in cc
+  found_once image text columns (rows some ended) (wrong place) is too = absurd (rows_not_wrong image text columns some ended place (inl is) too)
+  found_once image text columns (rows some ended) other is too = absurd (rows_not_other image text columns some ended (inl is) too)
+  found_once image text columns (wrong place) unmade is too = absurd (rows_not_wrong image text columns [] false place (inr (too, refl, refl)) is)
+  found_once image text columns (wrong place) (rows some ended) is too = absurd (rows_not_wrong image text columns some ended place (inl too) is)
   found_once image text columns (wrong place) (wrong place') is too = ap wrong (wrong_once image text columns place place' is too)
   found_once image text columns (wrong place) other is too = absurd (wrong_not_other image text columns place is too)
-  found_once image text columns other (rows some ended) is too = absurd (rows_not_other image text columns some ended too is)
+  found_once image text columns other unmade is too = absurd (rows_not_other image text columns [] false (inr (too, refl, refl)) is)
+  found_once image text columns other (rows some ended) is too = absurd (rows_not_other image text columns some ended (inl too) is)
   found_once image text columns other (wrong place) is too = absurd (wrong_not_other image text columns place too is)
   found_once image text columns other other is too = refl

@@ -18,7 +18,7 @@ use Rattle.load_runner.specs.Sources.{contents_in, IsMeaning}
 use Rattle.load_runner.specs.Trimmed.{Resumes}
 use Rattle.load_runner.specs.Asked.{asked_bytes}
 use Rattle.load_runner.specs.Jobs.{Job, Answer, columns_of, run_blocks}
-use Rattle.load_runner.specs.Found.{State, rows, wrong, other, IsFound}
+use Rattle.load_runner.specs.Found.{State, unmade, rows, wrong, other, IsFound}
 use Rattle.load_runner.specs.Safe.{IsSafe, HoldsAll, TableGrows, IsGrown, IsStopped}
 use Rattle.load_runner.specs.Reports.{report_of, ended_report}
 
@@ -82,8 +82,8 @@ pub record AddsRun (job : Job) (told : Option Files) (committed : List (List Val
   pub each : AtEachMoment disk now (λ image. disk.may_leave image
       ⊎ IsGrown disk.file job.text (columns_of job) olds (run_blocks job run) image)
 
--- a load to a table that isn't ended, whose blocks decode to the committed rows: only blocks of a trimmed run are
--- added, in their order
+-- a load to a table that isn't ended, whose blocks decode to the committed rows, or to none that is made: only blocks
+-- of a trimmed run are added, in their order
 pub record AddsTo (job : Job) (told : Option Files) (committed : List (List Value)) (disk now : DiskState)
     (answer : Answer) : Type 0 where
   pub olds : List Stored
@@ -117,6 +117,7 @@ complete_before committed = Ok (ended_report (length committed))
 
 -- what a load does, by what the file is found to be
 abbrev pub Does : Job → DepotState → DepotState → DiskState → DiskState → Answer → State → Type 0
+Does job depot still disk now answer unmade = AddsTo job depot.files [] disk now answer
 Does job depot still disk now answer (rows committed true) = Stays
     (complete_before committed) depot still disk now answer
 Does job depot still disk now answer (rows committed false) = AddsTo job depot.files committed disk now answer

@@ -12,6 +12,7 @@ ghost use Rattle.kind_laws.specs.Wholes.{Lists, whole_of};
 ghost use Rattle.table_read.specs.Rows.{table_rows};
 ghost use Rattle.table_write.specs.Cut.{cut};
 ghost use Rattle.table_write.specs.Rows.{HoldsRows};
+ghost use Rattle.load_runner.specs.Found.{FoundOnce};
 ghost use Rattle.load_runner.specs.Sources.{KeepsTruth};
 ghost use Rattle.load_runner.specs.Trimmed.{IsRest, Resumes};
 ghost use Rattle.load_runner.specs.Missing.{IsAllMissing};
@@ -23,6 +24,14 @@ use commit_disk::{holds_once, verdicts_agree};
 use flow_types::tree_laws;
 use list_algebra::bag_laws;
 use table_write::{blocks_laws, cut_laws};
+
+/// The table's file is found to be one thing alone. It does nothing: its contract is the law.
+pub fn found_once()
+    ensures { FoundOnce }
+{
+    holds_once();
+    verdicts_agree();
+}
 
 /// After any number of loads, each stopped at any moment or not, each over files that keep one truth: the table's rows
 /// stand for the meaning, no load takes rows back, and an ended table holds all of them. It does nothing: its contract

@@ -24,7 +24,7 @@ mod running;
 mod sources;
 
 pub use fault::{LoadFault, SourceFault, SourceWhat};
-pub use laws::any_loads;
+pub use laws::{any_loads, found_once};
 pub use report::{EdgeCount, Report, ReportEdges};
 pub use running::load;
 

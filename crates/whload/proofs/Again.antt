@@ -21,7 +21,8 @@ use Rattle.flow_types.specs.Flows.{has_fixed_root}
 use Rattle.whload.specs.declared.reason.Reason.{Reason}
 use Rattle.whload.specs.Commands.{Asked, Job, loads, asked_in}
 use Rattle.whload.specs.Promises as promises
-use Rattle.whload.specs.Promises.{Devices, LoadsAndTells, Answers, Runs, NotBegun, Promised, IsTold, Ends}
+use Rattle.whload.specs.Devices.{Devices}
+use Rattle.whload.specs.Promises.{LoadsAndTells, Answers, Runs, NotBegun, Promised, IsTold, Ends}
 use Rattle.whload.specs.Verdict.{asked_over, AsksFor}
 
 -- what was asked for is what there was to be done

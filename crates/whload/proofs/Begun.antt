@@ -5,10 +5,11 @@ use Rattle.outside.specs.Moments.{no_read}
 use Rattle.outside.specs.Whole.{size_of}
 use Rattle.whload.specs.declared.reason.Reason.{Reason}
 use Rattle.whload.specs.declared.reason.Reason.TheVariants as why
-use Rattle.whload.specs.Commands.{Asked, load, loads}
+use Rattle.whload.specs.Commands.{Asked, load, dump, FlowText, job_for}
 use Rattle.whload.specs.Reasons.{RefusesFlow, IsAsked as IsReadingReason}
-use Rattle.whload.specs.Promises.{Devices, devices, Untouched, Fits, LoadsAndTells, Runs, NotBegun, Begins}
-use Rattle.whload.specs.Verdict.{FlowText, flow_of_files, asked_over}
+use Rattle.whload.specs.Devices.{Devices, devices, Untouched}
+use Rattle.whload.specs.Promises.{Fits, Does, Runs, NotBegun, Begins}
+use Rattle.whload.specs.Verdict.{flow_of_files, asked_over}
 use Rattle.whload.proofs.Verdicts.{asked_refused, asked_read}
 
 -- nothing was asked of the devices
@@ -17,6 +18,11 @@ untouched devices = record { depot = refl; disk = no_read devices.disk; out = re
 
 fits_refusal : (command : Asked) (reason : Reason) → RefusesFlow reason → Fits command (Err reason)
 fits_refusal (load batch) reason refuses = refuses
+fits_refusal dump reason refuses = refuses
+
+fits_job : (command : Asked) (flow : FlowText) → Fits command (Ok (job_for command flow))
+fits_job (load batch) flow = refl
+fits_job dump flow = tt
 
 -- no more than the bytes of `flow.toml` were served
 abbrev pub ServesFlow : DepotState → DepotState → Type 0
@@ -48,6 +54,7 @@ module _ (command : Asked) (depot still : DepotState) (disk : DiskState) (out : 
   refused why.NotBuilt tells cause = refused_flow why.NotBuilt refl tells
   refused (why.Source fault) tells cause = absurd cause
   refused (why.NotATable place) tells cause = absurd cause
+  refused why.NotMade tells cause = absurd cause
   refused why.WorkflowDiffers tells cause = absurd cause
   refused why.Full tells cause = absurd cause
   refused why.Depot tells cause = inr (record { consults = consults; served = served; untouched = untouched (devices still disk out); outside = inr (refl, cause) })
@@ -55,15 +62,15 @@ module _ (command : Asked) (depot still : DepotState) (disk : DiskState) (out : 
   refused why.Sink tells cause = absurd cause
   refused why.Memory tells cause = inr (record { consults = consults; served = served; untouched = untouched (devices still disk out); outside = inl refl })
 
--- the flow was read, and then its load was made
-pub loaded : (batch : ℕ) (flow : FlowText) (old : Devices) (found : DepotState) (new : Devices) (answer : Option Reason) → Consults old.depot found → ServesFlow old.depot found
+-- the flow was read, and then what there was to be done was done
+pub done : (command : Asked) (flow : FlowText) (old : Devices) (found : DepotState) (new : Devices) (answer : Option Reason) → Consults old.depot found → ServesFlow old.depot found
     → ((files : Files) → old.depot.files ≡ Some files → flow_of_files files ≡ Ok flow)
-    → LoadsAndTells (record { flow = flow.flow; text = flow.text; batch = batch }) (record old { depot = found }) new answer → Begins (load batch) old new answer
-loaded batch flow old found new answer consults served tells did = inl (record {
+    → Does (job_for command flow) (record old { depot = found }) new answer → Begins command old new answer
+done command flow old found new answer consults served tells did = inl (record {
   found = found;
   consults = consults;
   served = served;
-  asked = Ok (loads (record { flow = flow.flow; text = flow.text; batch = batch }));
-  is_asked = record { is = λ files told. sym (asked_read (load batch) files flow (tells files told)); fits = refl };
+  asked = Ok (job_for command flow);
+  is_asked = record { is = λ files told. sym (asked_read command files flow (tells files told)); fits = fits_job command flow };
   does = did;
 })

@@ -4,8 +4,9 @@ use Rattle.outside.specs.Words.{Elapses, DepotState, Consults, SinkState}
 use Rattle.commit_disk.specs.Crashes.{LosesNothing}
 use Rattle.commit_disk.specs.Growth.{nothing_lost}
 use Rattle.whload.specs.declared.reason.Reason.{Reason}
-use Rattle.whload.specs.Commands.{Asked, Job, loads, asked_in}
-use Rattle.whload.specs.Promises.{Devices, Untouched, Does, Answers, Runs, NotBegun, Begins, Promised, KeepsOn}
+use Rattle.whload.specs.Commands.{Asked, Job, loads, dumps, asked_in}
+use Rattle.whload.specs.Devices.{Devices, Untouched}
+use Rattle.whload.specs.Promises.{Does, Answers, Runs, NotBegun, Begins, Promised, KeepsOn}
 
 -- what it keeps, and that no table is lost
 pub record Keeping (old new : Devices) : Type 0 where
@@ -43,6 +44,14 @@ does_keeps (loads job) old found new answer consults did = record {
     output = did.output;
   };
   nothing = did.loads.loses_nothing;
+}
+does_keeps (dumps job) old found new answer consults did = record {
+  on = record {
+    files = same_depot old.depot found new.depot consults did.depot;
+    time = did.elapses;
+    output = did.faults;
+  };
+  nothing = nothing_lost old.disk new.disk did.spares.nothing_new;
 }
 
 answers_keep : (asked : Result Job Reason) (old : Devices) (found : DepotState) (new : Devices) (answer : Option Reason) → Consults old.depot found → Answers asked (record old { depot = found }) new answer

@@ -20,6 +20,7 @@ told_alike depot (why.Schema fault) names known cause same = ap (λ n. refusal_l
 told_alike depot why.NotBuilt names known cause same = refl
 told_alike depot (why.Source fault) names known cause same = absurd cause
 told_alike depot (why.NotATable place) names known cause same = refl
+told_alike depot why.NotMade names known cause same = refl
 told_alike depot why.WorkflowDiffers names known cause same = refl
 told_alike depot why.Full names known cause same = refl
 told_alike depot why.Depot names known cause same = refl

@@ -5,8 +5,8 @@ use Rattle.outside.specs.Whole.{found_in}
 use Rattle.workflow_file.specs.declared.raw.RawFlow.{RawFlow}
 use Rattle.flow_types.specs.Flows.{TypedFlow}
 use Rattle.whload.specs.declared.reason.Reason.{Reason}
-use Rattle.whload.specs.Commands.{Asked, job_for}
-use Rattle.whload.specs.Verdict.{FlowText, text_in, raw_in, typed_of, flow_of_text, flow_of_files, raw_of_files, asked_over}
+use Rattle.whload.specs.Commands.{Asked, FlowText, job_for}
+use Rattle.whload.specs.Verdict.{text_in, raw_in, typed_of, flow_of_text, flow_of_files, raw_of_files, asked_over}
 
 pub not_parsed : (text : List ℕ) (e : Reason) → raw_in text ≡ Err e → flow_of_text text ≡ Err e
 unfolding flow_of_text
@@ -41,6 +41,6 @@ pub asked_refused : (command : Asked) (files : Files) (e : Reason) → flow_of_f
 unfolding asked_over
 asked_refused command files e is = rw is refl
 
-pub asked_read : (command : Asked) (files : Files) (flow : FlowText) → flow_of_files files ≡ Ok flow → asked_over command files ≡ Ok (job_for command flow.text flow.flow)
+pub asked_read : (command : Asked) (files : Files) (flow : FlowText) → flow_of_files files ≡ Ok flow → asked_over command files ≡ Ok (job_for command flow)
 unfolding asked_over
 asked_read command files flow is = rw is refl

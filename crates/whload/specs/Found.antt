@@ -2,8 +2,7 @@
 use Rattle.whload.specs.declared.find.Found.{Found}
 use Rattle.whload.specs.declared.words.Command.{Command}
 use Rattle.whload.specs.declared.words.Command.TheVariants as command
-use Rattle.whload.specs.Commands.{Asked, load}
-use Rattle.whload.specs.Verdict.{FlowText}
+use Rattle.whload.specs.Commands.{Asked, load, dump, FlowText}
 
 abbrev pub flow_text_of : Found → FlowText
 flow_text_of found = record { text = found.text.items; flow = found.flow }
@@ -11,3 +10,4 @@ flow_text_of found = record { text = found.text.items; flow = found.flow }
 -- the command
 abbrev pub asked_of : Command → Asked
 asked_of (command.Load batch) = load batch
+asked_of command.Dump = dump

@@ -7,5 +7,7 @@ pub mod Lines
 pub mod Verdict
 pub mod Refusals
 pub mod Found
+pub mod Devices
+pub mod Dumps
 pub mod Promises
 pub mod Answers

@@ -1,6 +1,6 @@
 -- What a run of the program promises.
-use Rattle.std.specs.Prelude.{◌≡◌, ◌⊎◌, ◌≤◌, ◌+◌, ℕ, List, Option, Some, None, Result, Ok, Err, IsTrue, codes}
-use Rattle.outside.specs.Words.{Rose, DiskState, Elapses, OnlyReads, Files, file_at, DepotState, Consults, SinkState, Gains, GainsFront}
+use Rattle.std.specs.Prelude.{◌≡◌, ◌⊎◌, ◌≤◌, ◌+◌, ℕ, List, Option, Some, None, Result, Ok, Err, IsTrue, codes, ⊤}
+use Rattle.outside.specs.Words.{Rose, Elapses, Files, file_at, DepotState, Consults, SinkState, Gains, GainsFront}
 use Rattle.outside.specs.Whole.{size_of}
 use Rattle.flow_types.specs.declared.node.Node.{Node}
 use Rattle.load_runner.specs.Jobs as jobs
@@ -10,23 +10,10 @@ use Rattle.whload.specs.declared.reason.Reason.TheVariants as why
 use Rattle.whload.specs.Reasons.{RefusesFlow}
 use Rattle.whload.specs.Stops.{reason_of_stop}
 use Rattle.whload.specs.Texts.{report_text, IsMade}
-use Rattle.whload.specs.Commands.{Asked, load, Job, loads, asked_in}
+use Rattle.whload.specs.Commands.{Asked, load, dump, Job, loads, dumps, asked_in}
+use Rattle.whload.specs.Devices.{Devices, Untouched}
+use Rattle.whload.specs.Dumps.{Dumps}
 use Rattle.whload.specs.Verdict.{asked_over}
-
--- the devices that a command works with, at one moment
-pub record Devices : Type 1 where
-  pub depot : DepotState
-  pub disk : DiskState
-  pub out : SinkState
-
-abbrev pub devices : DepotState → DiskState → SinkState → Devices
-devices depot disk out = record { depot = depot; disk = disk; out = out }
-
--- the depot, the table and the output are as they were
-pub record Untouched (old new : Devices) : Type 0 where
-  pub depot : new.depot ≡ old.depot
-  pub disk : OnlyReads old.disk new.disk
-  pub out : new.out ≡ old.out
 
 -- How each command is done.
 
@@ -48,13 +35,17 @@ pub record LoadsAndTells (job : jobs.Job) (old new : Devices) (answer : Option R
 -- what the program does of a job: a line for each command
 abbrev pub Does : Job → Devices → Devices → Option Reason → Type 0
 Does (loads job) old new answer = LoadsAndTells job old new answer
+Does (dumps job) old new answer = Dumps job old new answer
 
 -- What comes before.
 
 -- what there is to be done is what the command asks for over the files, or else the flow is refused
 abbrev pub Fits : Asked → Result Job Reason → Type 0
 Fits (load batch) (Ok (loads job)) = job.batch ≡ batch
-Fits (load batch) (Err reason) = RefusesFlow reason
+Fits (load batch) (Ok (dumps job)) = ⊥
+Fits dump (Ok (loads job)) = ⊥
+Fits dump (Ok (dumps job)) = ⊤
+Fits command (Err reason) = RefusesFlow reason
 
 pub record IsAsked (command : Asked) (depot : DepotState) (asked : Result Job Reason) : Type 0 where
   pub is : (files : Files) → depot.files ≡ Some files → asked ≡ asked_over command files

@@ -107,6 +107,7 @@ reason_text names (why.Schema fault) = fault_name names fault.node ++ (codes ": 
 reason_text names why.NotBuilt = codes "flow.toml is not built yet"
 reason_text names (why.Source fault) = codes "source " ++ (name_at names fault.source.0 ++ source_text fault.what)
 reason_text names (why.NotATable place) = codes "table.whl is not a table at " ++ decimal place
+reason_text names why.NotMade = codes "table.whl is not made"
 reason_text names why.WorkflowDiffers = codes "table.whl was made by another workflow"
 reason_text names why.Full = codes "table.whl is full"
 reason_text names why.Depot = codes "a source file failed"

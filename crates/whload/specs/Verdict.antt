@@ -11,14 +11,9 @@ use Rattle.flow_types.specs.Flows.{TypedFlow}
 use Rattle.flow_types.specs.Graph.{names_of}
 use Rattle.flow_types.specs.Built.{is_built}
 use Rattle.flow_types.specs.Typed.{typed}
-use Rattle.whload.specs.Commands.{Asked, Job, asked_in, job_for}
+use Rattle.whload.specs.Commands.{Asked, FlowText, Job, asked_in, job_for}
 use Rattle.whload.specs.declared.reason.Reason.{Reason}
 use Rattle.whload.specs.declared.reason.Reason.TheVariants as why
-
--- the flow of a folder: its text, and the typed flow that it declares
-pub record FlowText : Type 0 where
-  pub text : List ℕ
-  pub flow : TypedFlow
 
 -- the flow's text, of what is found of `flow.toml`
 abbrev pub text_in : Found → Result (List ℕ) Reason
@@ -87,7 +82,7 @@ known_names files = declared_names (raw_of_files files)
 unfoldable pub asked_over : Asked → Files → Result Job Reason
 asked_over command files = do
   found ← flow_of_files files
-  Ok (job_for command found.text found.flow)
+  Ok (job_for command found)
 
 -- the words ask for this over these files
 pub record AsksFor (words : List (List ℕ)) (files : Files) (job : Job) : Type 0 where

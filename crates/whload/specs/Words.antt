@@ -31,3 +31,8 @@ abbrev pub batch_in : List (List ℕ) → Option ℕ
 batch_in (command ∷ folder ∷ []) = default_batch command
 batch_in (command ∷ folder ∷ option ∷ number ∷ []) = given_batch command option number
 batch_in _ = None
+
+-- the words are `dump DIR`, for a folder of any name
+abbrev pub is_dump : List (List ℕ) → Bool
+is_dump (command ∷ folder ∷ []) = bytes_eq command (codes "dump")
+is_dump _ = false

@@ -1,13 +1,15 @@
 // Carrying out a command.
 ghost use Rattle.std.specs.Prelude.{◌≡◌, ◌≤◌, length, IfErr};
 ghost use Rattle.whload.specs.Answers.{answer_of};
-ghost use Rattle.whload.specs.Commands.{IsWithin, load};
-ghost use Rattle.whload.specs.Found.{asked_of};
-ghost use Rattle.whload.specs.Promises.{Begins, LoadsAndTells, devices};
+ghost use Rattle.whload.specs.Commands.{IsWithin, load, job_for};
+ghost use Rattle.whload.specs.Devices.{devices};
+ghost use Rattle.whload.specs.Found.{asked_of, flow_text_of};
+ghost use Rattle.whload.specs.Promises.{Begins, Does, LoadsAndTells};
 ghost use Rattle.whload.specs.Refusals.{in_reasons, HasLineOver};
 ghost use Rattle.whload.specs.Stops.{reason_of_stop};
 
 use crate::Reason;
+use crate::dump::dump;
 use crate::find::{Found, find};
 use crate::refusal::Refusal;
 use crate::texts::report_text;
@@ -35,13 +37,34 @@ pub fn carry_out<D: Depot, K: Disk, S: Sink>(
         Ok(found) => found,
         Err(refusal) => return Err(refusal),
     };
-    if let Err(reason) = load_and_tell(alloc, &found, command.batch(), depot, disk, out) {
-        return Err(Refusal {
+    match carry_on(alloc, command, &found, depot, disk, out) {
+        Ok(()) => Ok(()),
+        Err(reason) => Err(Refusal {
             reason,
             flow: Some(found.raw),
-        });
+        }),
     }
-    Ok(())
+}
+
+// Does what the command has to do with the flow that was found.
+fn carry_on<D: Depot, K: Disk, S: Sink>(
+    alloc: Global,
+    command: Command,
+    found: &Found,
+    depot: &mut D,
+    disk: &mut K,
+    out: &mut S,
+) -> Result<(), Reason>
+    requires short { length found.now.text.items ≤ 65536 }
+    requires within { IsWithin (asked_of command) }
+    ensures { Does (job_for (asked_of command) (flow_text_of found.now))
+        (devices (D.state depot.old) (K.state disk.old) (S.state out.old))
+        (devices (D.state depot.new) (K.state disk.new) (S.state out.new)) (answer_of result) }
+{
+    match command {
+        Command::Load { batch } => load_and_tell(alloc, found, batch, depot, disk, out),
+        Command::Dump => dump(alloc, found, disk, out),
+    }
 }
 
 // Loads, and puts the report.

@@ -15,6 +15,7 @@
 mod carry;
 #[cfg(test)]
 mod column_tests;
+mod dump;
 mod find;
 mod flow;
 mod laws;

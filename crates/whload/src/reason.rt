@@ -25,6 +25,8 @@ pub enum Reason {
     NotBuilt,
     /// The table's file is made, and is no table: this is the first wrong place.
     NotATable { at: u64 },
+    /// There is no table to be read: none was made in its file.
+    NotMade,
     /// The table was made by another flow text.
     WorkflowDiffers,
     /// The first source in the order of the flow file that has no content.
@@ -91,7 +93,7 @@ impl Reason {
             Reason::Schema(_) => Step::Flow,
             Reason::NotBuilt => Step::Flow,
             Reason::Source(_) => Step::Source,
-            Reason::NotATable { .. } | Reason::WorkflowDiffers => Step::Table,
+            Reason::NotATable { .. } | Reason::NotMade | Reason::WorkflowDiffers => Step::Table,
             Reason::Full => Step::Room,
             Reason::Depot | Reason::Disk | Reason::Sink => Step::Device,
             Reason::Memory => Step::Memory,

@@ -3,7 +3,8 @@ ghost use Rattle.std.specs.Prelude.{◌≡◌, Option, Some, map, string_bytes};
 ghost use Rattle.outside.specs.Words.{Files};
 ghost use Rattle.commit_disk.specs.Crashes.{LosesNothing};
 ghost use Rattle.whload.specs.Answers.{ending_status, GainsLine, Notes};
-ghost use Rattle.whload.specs.Promises.{Ends, KeepsOn, IsTold, devices};
+ghost use Rattle.whload.specs.Devices.{devices};
+ghost use Rattle.whload.specs.Promises.{Ends, KeepsOn, IsTold};
 ghost use Rattle.whload.specs.Refusals.{HasLineOver};
 
 use crate::carry::carry_out;

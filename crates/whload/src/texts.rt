@@ -115,6 +115,7 @@ pub fn line_of(alloc: Global, refusal: &Refusal) -> Result<Line, AllocError>
             let text = format!(in alloc; "whload: table.whl is not a table at {at}\n")?;
             return Ok(Line::Made(text));
         }
+        Reason::NotMade => "whload: table.whl is not made\n",
         Reason::WorkflowDiffers => "whload: table.whl was made by another workflow\n",
         Reason::Full => "whload: table.whl is full\n",
         Reason::Depot => "whload: a source file failed\n",

@@ -1,8 +1,8 @@
 // The words of the command line.
 ghost use Rattle.std.specs.Prelude.{◌≡◌, ◌≤◌, map, string_bytes, option_map, IfSome};
-ghost use Rattle.whload.specs.Commands.{asked_in, load, IsWithin};
+ghost use Rattle.whload.specs.Commands.{asked_in, IsWithin};
 ghost use Rattle.whload.specs.Found.{asked_of};
-ghost use Rattle.whload.specs.Words.{begins_with_zero, batch_number, default_batch, given_batch, batch_in};
+ghost use Rattle.whload.specs.Words.{begins_with_zero, batch_number, default_batch, given_batch, batch_in, is_dump};
 
 use plain_where::number_of;
 
@@ -11,17 +11,8 @@ use plain_where::number_of;
 pub enum Command {
     /// `load DIR` or `load DIR --batch N`, in blocks of so many rows: 1 to 4,096.
     Load { batch: u32 },
-}
-
-impl Command {
-    /// How many rows a block may have.
-    pub fn batch(self) -> u32
-        ensures { load result ≡ asked_of self }
-    {
-        match self {
-            Command::Load { batch } => batch,
-        }
-    }
+    /// `dump DIR`.
+    Dump,
 }
 
 /// The command that the words are, if they are one.
@@ -29,9 +20,22 @@ pub fn command_in(words: &[String]) -> Option<Command>
     ensures command { option_map asked_of result ≡ asked_in (map string_bytes words.now) }
     ensures within { IfSome result (λ command. IsWithin (asked_of command)) }
 {
+    if is_dump(words) {
+        return Some(Command::Dump);
+    }
     match batch_in(words) {
         Some(batch) => Some(Command::Load { batch }),
         None => None,
+    }
+}
+
+// Whether the words are `dump DIR`.
+fn is_dump(words: &[String]) -> bool
+    ensures { result ≡ is_dump (map string_bytes words.now) }
+{
+    match words {
+        [command, _] => command.as_str() == "dump",
+        _ => false,
     }
 }
 

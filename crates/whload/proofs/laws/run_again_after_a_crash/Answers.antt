@@ -5,7 +5,8 @@ use Rattle.load_runner.specs.Jobs.{columns_of}
 use Rattle.load_runner.specs.Safe.{IsSafe}
 use Rattle.flow_types.specs.Flows.{has_fixed_root}
 use Rattle.whload.specs.declared.reason.Reason.{Reason}
-use Rattle.whload.specs.Promises.{Ends, devices}
+use Rattle.whload.specs.Devices.{devices}
+use Rattle.whload.specs.Promises.{Ends}
 use Rattle.whload.proofs.Again.{fresh, stays_safe, done_is_whole}
 use Rattle.whload.proofs.laws.run_again_after_a_crash.Goals as goal
 
