@@ -1,0 +1,22 @@
+//! The rows of a committed table, written as CSV to an output.
+//!
+//! Stands on `table_read`, which gives the rows block by block, on `row_codec`, which prints a field, on `csv`, which
+//! writes a record, and on `outside`, which has the disk and the output. Read `specs/Texts.antt` first: `dump_text` is
+//! the text of a dump, and `Leaves` says what a call leaves of a text.
+//!
+//! Promised: on an honest disk `dump` answers Ok where the whole text stands in the output, and where it stops a front
+//! of it does; of a table whose rows decode NotATable never comes. On any disk what stands there is a dump of some
+//! rows of the columns, or a front of one.
+//! Not promised: that memory is found; which rows they are on a disk that isn't honest.
+#![tactic(auto)]
+
+mod dump;
+mod fault;
+mod record;
+mod text;
+
+pub use dump::dump;
+pub use fault::DumpFault;
+
+#[cfg(test)]
+mod tests;

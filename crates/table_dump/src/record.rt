@@ -1,0 +1,40 @@
+// Records of printed fields, in memory that is used again.
+ghost use Rattle.std.specs.Prelude.{◌≡◌, OnOk, map};
+ghost use Rattle.csv.specs.Records.{fields_of};
+ghost use Rattle.tuple_schema.specs.Schemas.{Fits, IsSchema};
+ghost use Rattle.table_dump.specs.Texts.{printed};
+
+use csv::ByteRecord;
+use row_codec::print_field;
+use tuple_schema::{Column, Fields, Memory};
+
+/// Makes the record that of the columns' names.
+pub(crate) fn name_columns(columns: &[Column], record: &mut ByteRecord) -> Result<(), Memory>
+    ensures { OnOk result (fields_of record.new ≡ map (λ c. c.name) columns.now) }
+{
+    record.clear();
+    for column in columns {
+        record.push_field(column.name.as_str().as_bytes())?;
+    }
+    Ok(())
+}
+
+/// Makes the record that of the row's printed fields. Each is printed over the text of the one before.
+pub(crate) fn print_row<F: Fields>(
+    row: &F,
+    columns: &[Column],
+    field: &mut Vec<u8>,
+    record: &mut ByteRecord,
+) -> Result<(), Memory>
+    requires schema { IsSchema columns.now }
+    requires fits { Fits columns.now (F.tuple row.now) }
+    ensures { OnOk result (fields_of record.new ≡ printed columns.now (F.tuple row.now)) }
+{
+    record.clear();
+    for i in 0..columns.len() {
+        field.clear();
+        print_field(row.field(i), &columns[i], field)?;
+        record.push_field(field)?;
+    }
+    Ok(())
+}
