@@ -6,9 +6,9 @@ pub mod Asked
 pub mod Found
 pub mod Safe
 pub mod Starts
-pub mod Faults
+pub mod Stops
 pub mod Reports
 pub mod Jobs
-pub mod Resuming
+pub mod Adding
 pub mod Loads
 pub mod Histories

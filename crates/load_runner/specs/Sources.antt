@@ -7,12 +7,11 @@ use Rattle.outside.specs.Depot.{Files, file_at}
 use Rattle.outside.specs.Whole.{found_in}
 use Rattle.tuple_schema.specs.Stops.{◌>>=◌}
 use Rattle.extractors.specs.declared.fault.CsvFault.{CsvFault}
-use Rattle.extractors.specs.declared.fault.CsvFault.TheVariants as csv
+use Rattle.extractors.specs.declared.fault.CsvFault.TheVariants.{Depot}
 use Rattle.extractors.specs.Opening.{source_content}
 use Rattle.flow_types.specs.declared.fault.NodeId.{NodeId}
-use Rattle.load_runner.specs.declared.fault.LoadFault.{LoadFault}
-use Rattle.load_runner.specs.declared.fault.LoadFault.TheVariants as load
 use Rattle.load_runner.specs.declared.fault.SourceFault.{SourceFault}
+use Rattle.load_runner.specs.declared.fault.SourceWhat.{SourceWhat}
 use Rattle.load_runner.specs.declared.fault.SourceWhat.TheVariants as what
 use Rattle.flow_types.specs.declared.node.Kind.{Kind}
 use Rattle.flow_types.specs.declared.node.Kind.TheVariants as kind
@@ -24,6 +23,10 @@ use Rattle.kind_laws.specs.Promises.{KeepsPromises, IsListing}
 -- the fault of a source
 abbrev pub source_fault : NodeId → CsvFault → SourceFault
 source_fault id fault = record { source = id; what = what.Csv fault }
+
+-- the depot failed while the source was read
+abbrev pub by_depot : SourceWhat
+by_depot = what.Csv Depot
 
 -- its content, or its fault
 abbrev pub of_source : NodeId → Result (List Tuple) CsvFault → Result (List Tuple) SourceFault
@@ -59,15 +62,6 @@ all_of (first ∷ others) = do
 abbrev pub contents_in : List Node → Files → Result (List (List Tuple)) SourceFault
 contents_in nodes files = all_of (map (λ number. content_of files (numbered nodes number))
     (range_with_len 0 (length nodes)))
-
--- the fault of a load that a fault of a source's file is
-abbrev pub of_csv : NodeId → CsvFault → LoadFault
-of_csv id csv.Depot = load.Depot
-of_csv id csv.Missing = load.Source (source_fault id csv.Missing)
-of_csv id (csv.TooLarge size) = load.Source (source_fault id (csv.TooLarge size))
-of_csv id (csv.BadHeader at) = load.Source (source_fault id (csv.BadHeader at))
-of_csv id (csv.BadCsv row) = load.Source (source_fault id (csv.BadCsv row))
-of_csv id (csv.BadRow row column cause) = load.Source (source_fault id (csv.BadRow row column cause))
 
 -- the files keep a truth: their contents list it, and it keeps what the sources promise
 pub record KeepsTruth (files : Files) (nodes : List Node) (truth : Lists) : Type 0 where

@@ -2,27 +2,11 @@
 use Rattle.std.specs.Prelude.{◌≡◌, ◌+◌, ℕ, List, [], length, Bool, false, Ok}
 use Rattle.tuple_schema.specs.declared.value.Value.{Value}
 use Rattle.tuple_schema.specs.declared.schema.Column.{Column}
-use Rattle.tuple_schema.specs.declared.memory.Stop.{Stop}
-use Rattle.tuple_schema.specs.declared.memory.Stop.TheVariants.{Memory, Fault}
-use Rattle.commit_disk.specs.declared.attaching.TableFault.{TableFault}
-use Rattle.commit_disk.specs.declared.attaching.TableFault.TheVariants as table
 use Rattle.commit_disk.specs.declared.attaching.Attached.{Attached}
 use Rattle.commit_disk.specs.declared.attaching.Attached.TheVariants.{NotMade, Made}
 use Rattle.commit_disk.specs.Table.{Stored, HoldsUpTo, IsNotMade, row_blocks}
 use Rattle.commit_disk.specs.Attach.{TellsOf}
 use Rattle.table_read.specs.Rows.{table_rows}
-use Rattle.load_runner.specs.declared.fault.LoadFault.{LoadFault}
-use Rattle.load_runner.specs.declared.fault.LoadFault.TheVariants as fault
-
--- the fault of a load that the table's fault is
-abbrev pub of_table : TableFault → LoadFault
-of_table table.Disk = fault.Disk
-of_table (table.NotATable place) = fault.NotATable place
-of_table table.WorkflowDiffers = fault.WorkflowDiffers
-
-abbrev pub stop_of_table : Stop TableFault → Stop LoadFault
-stop_of_table Memory = Memory
-stop_of_table (Fault f) = Fault (of_table f)
 
 -- what was found of the image tells its rows: none where it isn't made, and else those of the blocks that the journal
 -- tells of

@@ -1,7 +1,6 @@
 // Why a load stopped.
 ghost use Rattle.std.specs.Prelude.{◌≡◌};
-ghost use Rattle.load_runner.specs.Sources.{of_csv};
-ghost use Rattle.load_runner.specs.Starts.{of_table, stop_of_table};
+ghost use Rattle.load_runner.specs.Stops.{of_table, of_source, of_sources, of_write};
 
 use commit_disk::TableFault;
 use extractors::CsvFault;
@@ -48,7 +47,7 @@ pub enum LoadFault {
 
 /// The stop of a load that a stop of reading the table is.
 pub fn of_table(stop: Stop<TableFault>) -> Stop<LoadFault>
-    ensures { result ≡ stop_of_table stop }
+    ensures { result ≡ of_table stop }
 {
     match stop {
         Stop::Memory => Stop::Memory,
@@ -58,30 +57,39 @@ pub fn of_table(stop: Stop<TableFault>) -> Stop<LoadFault>
     }
 }
 
-/// The fault of a load that a fault of a source's file is: where the depot failed, the source isn't blamed.
-pub fn of_csv(source: NodeId, fault: CsvFault) -> LoadFault
-    ensures { result ≡ of_csv source fault }
+/// The stop of a load that a stop of reading its sources is.
+pub fn of_sources(stop: Stop<SourceFault>) -> Stop<LoadFault>
+    ensures { result ≡ of_sources stop }
 {
-    match fault {
-        CsvFault::Depot => LoadFault::Depot,
-        CsvFault::Missing
-        | CsvFault::TooLarge { .. }
-        | CsvFault::BadHeader { .. }
-        | CsvFault::BadCsv { .. }
-        | CsvFault::BadRow { .. } => LoadFault::Source(SourceFault {
-            source,
-            what: SourceWhat::Csv(fault),
-        }),
+    match stop {
+        Stop::Memory => Stop::Memory,
+        Stop::Fault(fault) => Stop::Fault(of_source(fault)),
     }
 }
 
-/// The fault of a load that a fault of writing the table is.
-pub fn of_write(fault: WriteFault) -> LoadFault
-    ensures disk { fault ≡ WriteFault.Disk → result ≡ LoadFault.Disk }
-    ensures full { fault ≡ WriteFault.Full → result ≡ LoadFault.Full }
+// The fault of a load that a source's fault is: where the depot failed, the source isn't blamed.
+fn of_source(fault: SourceFault) -> LoadFault
+    ensures { result ≡ of_source fault fault.what }
 {
-    match fault {
-        WriteFault::Disk => LoadFault::Disk,
-        WriteFault::Full => LoadFault::Full,
+    match fault.what {
+        SourceWhat::Csv(CsvFault::Depot) => LoadFault::Depot,
+        SourceWhat::Csv(
+            CsvFault::Missing
+            | CsvFault::TooLarge { .. }
+            | CsvFault::BadHeader { .. }
+            | CsvFault::BadCsv { .. }
+            | CsvFault::BadRow { .. },
+        ) => LoadFault::Source(fault),
+    }
+}
+
+/// The stop of a load that a stop of writing the table is.
+pub fn of_write(stop: Stop<WriteFault>) -> Stop<LoadFault>
+    ensures { result ≡ of_write stop }
+{
+    match stop {
+        Stop::Memory => Stop::Memory,
+        Stop::Fault(WriteFault::Disk) => Stop::Fault(LoadFault::Disk),
+        Stop::Fault(WriteFault::Full) => Stop::Fault(LoadFault::Full),
     }
 }

@@ -19,7 +19,6 @@ mod fault;
 mod finish;
 mod laws;
 mod report;
-mod resume;
 mod running;
 mod sources;
 

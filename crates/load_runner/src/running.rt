@@ -1,18 +1,19 @@
 // A load, from beginning to end.
-ghost use Rattle.std.specs.Prelude.{◌≤◌, length};
+ghost use Rattle.std.specs.Prelude.{◌≡◌, ◌≤◌, length, drop};
 ghost use Rattle.load_runner.specs.Loads.{Loads};
 
-use crate::begin::begin;
-use crate::fault::LoadFault;
-use crate::report::{Report, ended_report};
-use crate::resume::{count_of, is_ended, resume};
+use crate::begin::{begin, count_of, is_ended};
+use crate::fault::{LoadFault, of_sources, of_table, of_write};
+use crate::finish::finish;
+use crate::report::{Report, ended_report, skip_report};
+use crate::sources::whole_rows;
 use commit_disk::{MAX_FLOW_BYTES, MAX_ROWS, holds_once, verdicts_agree};
 use flow_types::{Flow, tree_laws};
 use list_algebra::bag_laws;
 use outside::{Depot, Disk};
 use std::alloc::Global;
-use table_write::{blocks_laws, cut_laws, still_laws};
-use tuple_schema::Stop;
+use table_write::{Writer, blocks_laws, cut_laws, still_laws};
+use tuple_schema::{Stop, Tuple};
 
 /// Loads what the table still lacks of the flow's meaning, in blocks of `batch` rows, and ends it. Ok is complete.
 ///
@@ -42,10 +43,42 @@ pub fn load<D: Depot, K: Disk>(
     let root = flow.root_node();
     let found = match begin(alloc, disk, text, &root.schema) {
         Ok(found) => found,
-        Err(stop) => return Err(stop),
+        Err(stop) => return Err(of_table(stop)),
     };
+    let before = count_of(&found);
     if is_ended(&found) {
-        return Ok(ended_report(alloc, count_of(&found)));
+        return Ok(ended_report(alloc, before));
     }
-    resume(alloc, flow, text, batch, depot, disk, found)
+    let mut writer = Writer::new(alloc)?;
+    let rows = match whole_rows(alloc, flow, depot) {
+        Ok(rows) => rows,
+        Err(stop) => return Err(of_sources(stop)),
+    };
+    // The report comes first, so that no memory is wanted once the table is ended.
+    let report = skip_report(alloc, root.id, before, rows.len() as u64)?;
+    let missing = behind(rows.rows(), before);
+    match finish(
+        alloc,
+        disk,
+        found,
+        text,
+        &root.schema,
+        missing,
+        batch,
+        &mut writer,
+    ) {
+        Ok(()) => Ok(report),
+        Err(stop) => Err(of_write(stop)),
+    }
+}
+
+// The rows behind so many, if there are more.
+fn behind(rows: &[Tuple], count: u64) -> &[Tuple]
+    ensures { result.now ≡ drop count rows.now }
+{
+    if count < rows.len() as u64 {
+        &rows[count as usize..]
+    } else {
+        &rows[rows.len()..]
+    }
 }

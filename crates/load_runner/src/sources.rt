@@ -1,5 +1,5 @@
 // The rows that a flow means, from the files of its sources.
-ghost use Rattle.std.specs.Prelude.{◌≡◌, ◌<◌, ◌≤◌, ◌+◌, ℕ, Some, All, IfOk, IfSome, Ok, Err, option_copied, find};
+ghost use Rattle.std.specs.Prelude.{◌≡◌, ◌≢◌, ◌<◌, ◌≤◌, ◌+◌, ℕ, Some, All, IfOk, IfSome, Ok, Err, option_copied, find};
 ghost use Rattle.outside.specs.Words.{Rose, Files, file_at, Consults};
 ghost use Rattle.outside.specs.Whole.{found_in, size_of};
 ghost use Rattle.tuple_schema.specs.Schemas.{Fits};
@@ -9,14 +9,12 @@ ghost use Rattle.extractors.specs.Opening.{source_content};
 ghost use Rattle.flow_types.specs.Flows.{root_in};
 ghost use Rattle.kind_laws.specs.Wholes.{by_number};
 ghost use Rattle.kind_laws.specs.Laws.{OwnFit, SourcesFit};
-ghost use Rattle.load_runner.specs.declared.fault.LoadFault.TheVariants as fault;
 ghost use Rattle.load_runner.specs.declared.fault.SourceFault.{SourceFault};
-ghost use Rattle.load_runner.specs.Sources.{of_source, content_of, numbered, contents_in};
+ghost use Rattle.load_runner.specs.Sources.{by_depot, of_source, content_of, numbered, contents_in};
 ghost use Rattle.load_runner.specs.Asked.{asked_of, asked_bytes};
 ghost use Rattle.load_runner.specs.Jobs.{IsMade};
-ghost use Rattle.load_runner.specs.Faults.{IsSourceFault};
 
-use crate::fault::{LoadFault, of_csv};
+use crate::fault::{SourceFault, SourceWhat};
 use extractors::CsvSource;
 use flow_types::{Flow, Kind, Node, NodeId, Source, tree_laws};
 use kind_laws::whole;
@@ -29,21 +27,19 @@ pub fn whole_rows<D: Depot>(
     alloc: Global,
     flow: &Flow,
     depot: &mut D,
-) -> Result<Tuples, Stop<LoadFault>>
+) -> Result<Tuples, Stop<SourceFault>>
     ensures made { IfOk result (λ rows. IsMade flow.now (D.state depot.old).files rows) }
-    ensures refused { (f : SourceFault) → result ≡ Err (stop.Fault (fault.Source f))
+    ensures refused { (f : SourceFault) → result ≡ Err (stop.Fault f) → f.what ≢ by_depot
         → (files : Files) → (D.state depot.old).files ≡ Some files → contents_in flow.now.nodes files ≡ Err f }
     ensures fit { IfOk result (λ rows. IfSome (root_in flow.now.nodes)
         (λ root. All (λ row. Fits root.schema row) rows)) }
-    ensures causes { IfFault result (IsSourceFault (Rose (D.state depot.old).faults (D.state depot.new).faults)) }
+    ensures cause { IfFault result (λ f. f.what ≡ by_depot
+        → Rose (D.state depot.old).faults (D.state depot.new).faults) }
     ensures consults { Consults (D.state depot.old) (D.state depot.new) }
     ensures served { (files : Files) → (D.state depot.old).files ≡ Some files
         → (D.state depot.new).served ≤ (D.state depot.old).served + asked_bytes flow.now.nodes files }
 {
-    let sources = match source_lists(alloc, flow, depot) {
-        Ok(sources) => sources,
-        Err(stop) => return Err(stop),
-    };
+    let sources = source_lists(alloc, flow, depot)?;
     match whole(alloc, flow, sources) {
         Ok(rows) => Ok(rows),
         Err(Memory) => Err(Stop::Memory),
@@ -55,13 +51,14 @@ fn source_lists<D: Depot>(
     alloc: Global,
     flow: &Flow,
     depot: &mut D,
-) -> Result<Vec<Tuples>, Stop<LoadFault>>
+) -> Result<Vec<Tuples>, Stop<SourceFault>>
     ensures contents { IfOk result (λ lists. (files : Files) → (D.state depot.old).files ≡ Some files
         → contents_in flow.now.nodes files ≡ Ok lists.items) }
-    ensures refused { (f : SourceFault) → result ≡ Err (stop.Fault (fault.Source f))
+    ensures refused { (f : SourceFault) → result ≡ Err (stop.Fault f) → f.what ≢ by_depot
         → (files : Files) → (D.state depot.old).files ≡ Some files → contents_in flow.now.nodes files ≡ Err f }
     ensures fit { IfOk result (λ lists. SourcesFit flow.now.nodes (by_number lists.items)) }
-    ensures causes { IfFault result (IsSourceFault (Rose (D.state depot.old).faults (D.state depot.new).faults)) }
+    ensures cause { IfFault result (λ f. f.what ≡ by_depot
+        → Rose (D.state depot.old).faults (D.state depot.new).faults) }
     ensures consults { Consults (D.state depot.old) (D.state depot.new) }
     ensures served { (files : Files) → (D.state depot.old).files ≡ Some files
         → (D.state depot.new).served ≤ (D.state depot.old).served + asked_bytes flow.now.nodes files }
@@ -70,10 +67,8 @@ fn source_lists<D: Depot>(
     let nodes = flow.nodes();
     let mut lists = Vec::new(alloc);
     for number in 0..nodes.len() {
-        match source_rows(alloc, numbered(nodes, number), depot) {
-            Ok(rows) => lists.push(rows)?,
-            Err(stop) => return Err(stop),
-        }
+        let rows = source_rows(alloc, numbered(nodes, number), depot)?;
+        lists.push(rows)?;
     }
     Ok(lists)
 }
@@ -90,14 +85,15 @@ fn source_rows<D: Depot>(
     alloc: Global,
     node: Option<&Node>,
     depot: &mut D,
-) -> Result<Tuples, Stop<LoadFault>>
+) -> Result<Tuples, Stop<SourceFault>>
     ensures content { IfOk result (λ rows. (files : Files) → (D.state depot.old).files ≡ Some files
         → content_of files (option_copied node.entry) ≡ Ok rows) }
-    ensures refused { (f : SourceFault) → result ≡ Err (stop.Fault (fault.Source f))
+    ensures refused { (f : SourceFault) → result ≡ Err (stop.Fault f) → f.what ≢ by_depot
         → (files : Files) → (D.state depot.old).files ≡ Some files
         → content_of files (option_copied node.entry) ≡ Err f }
     ensures fit { IfOk result (λ rows. IfSome (option_copied node.entry) (λ n. OwnFit n.kind n.schema rows)) }
-    ensures causes { IfFault result (IsSourceFault (Rose (D.state depot.old).faults (D.state depot.new).faults)) }
+    ensures cause { IfFault result (λ f. f.what ≡ by_depot
+        → Rose (D.state depot.old).faults (D.state depot.new).faults) }
     ensures consults { Consults (D.state depot.old) (D.state depot.new) }
     ensures served { (files : Files) → (D.state depot.old).files ≡ Some files
         → (D.state depot.new).served ≤ (D.state depot.old).served + asked_of files (option_copied node.entry) }
@@ -118,16 +114,17 @@ fn read_rows<D: Depot>(
     id: NodeId,
     source: &Source,
     schema: &Schema,
-) -> Result<Tuples, Stop<LoadFault>>
+) -> Result<Tuples, Stop<SourceFault>>
     ensures content { IfOk result (λ rows. (files : Files) → (D.state depot.old).files ≡ Some files
         → of_source id (source_content source.now.any_header schema.now
         (found_in 268435456 (file_at files source.now.file))) ≡ Ok rows) }
-    ensures refused { (f : SourceFault) → result ≡ Err (stop.Fault (fault.Source f))
+    ensures refused { (f : SourceFault) → result ≡ Err (stop.Fault f) → f.what ≢ by_depot
         → (files : Files) → (D.state depot.old).files ≡ Some files
         → of_source id (source_content source.now.any_header schema.now
         (found_in 268435456 (file_at files source.now.file))) ≡ Err f }
     ensures fit { IfOk result (λ rows. All (λ row. Fits schema.now row) rows) }
-    ensures causes { IfFault result (IsSourceFault (Rose (D.state depot.old).faults (D.state depot.new).faults)) }
+    ensures cause { IfFault result (λ f. f.what ≡ by_depot
+        → Rose (D.state depot.old).faults (D.state depot.new).faults) }
     ensures consults { Consults (D.state depot.old) (D.state depot.new) }
     ensures served { (files : Files) → (D.state depot.old).files ≡ Some files
         → (D.state depot.new).served ≤ (D.state depot.old).served + size_of (file_at files source.now.file) }
@@ -141,6 +138,9 @@ fn read_rows<D: Depot>(
     ) {
         Ok(opened) => Ok(opened.tuples(alloc)?),
         Err(Stop::Memory) => Err(Stop::Memory),
-        Err(Stop::Fault(fault)) => Err(Stop::Fault(of_csv(id, fault))),
+        Err(Stop::Fault(fault)) => Err(Stop::Fault(SourceFault {
+            source: id,
+            what: SourceWhat::Csv(fault),
+        })),
     }
 }
