@@ -22,6 +22,7 @@ mod report;
 mod running;
 mod sources;
 
+pub use begin::begin as open_table;
 pub use fault::{LoadFault, SourceFault, SourceWhat};
 pub use laws::{any_loads, found_once};
 pub use report::{EdgeCount, Report, ReportEdges};

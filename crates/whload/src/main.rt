@@ -19,6 +19,7 @@ mod dump;
 mod find;
 mod flow;
 mod laws;
+mod load;
 mod reason;
 mod refusal;
 mod run;
