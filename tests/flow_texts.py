@@ -363,7 +363,7 @@ SOURCE_FORMS = [
     ({"promise": "'set'"}, NOT_BUILT),
 ]
 
-# The table's input, what follows the columns n and m of the source, the nodes, the rows of the source, and of the table.
+# The table's input, what follows the columns n and m of the source, the nodes, the source's rows, and the table's.
 MEANINGS = [
     ("a", "", [], [], []),
     ("a", "", [], [(1, 2), (1, 2), (0, 5)], [(1, 2), (1, 2), (0, 5)]),
