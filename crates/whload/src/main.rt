@@ -13,8 +13,6 @@
 #![tactic(auto)]
 
 mod carry;
-#[cfg(test)]
-mod column_tests;
 mod find;
 mod flow;
 mod laws;
