@@ -1,64 +1,33 @@
 #!/usr/bin/env python3
 """Runs the proved program that the gate left over real files, and compares every byte.
 
-It builds nothing. The expected bytes are packed here, from docs/FORMATS.md and not from the program.
+Here are whole loads, tables that stand already, words, and devices; flow_texts.py and csv_texts.py have the texts of
+flows and of sources.
 """
 import csv
 import os
-import shutil
-import struct
 import subprocess
 import sys
-import tempfile
 
-TOP = os.path.dirname(os.path.dirname(os.path.abspath(__file__)))
-PROGRAM = os.path.join(TOP, "crates", "whload", "out", "whload")
+from harness import (PROGRAM, REPORT, TOP, expect, expect_load, expect_refusal, folder, head_bytes, run, run_parts,
+                     table_bytes, table_of)
 
 FLOW = b"""table = { input = "nums" }
 source = [ { name = "nums", file = "nums.csv", columns = ["a int", "b int"], promise = "seq" } ]
 """
-REPORT = b"complete\nbefore 0\nadded %d\n"
 
-passed = 0
-failed = []
+THREE = b"a,b\n1,10\n2,20\n3,30\n"
 
+ROWS = [(1, 10), (2, 20), (3, 30)]
 
-def field_bytes(value):
-    """None is Null, a number the units of an int or a decimal."""
-    if value is None:
-        return b"\x00"
-    if isinstance(value, str):
-        text = value.encode()
-        return b"\x01" + struct.pack(">H", len(text)) + text
-    return b"\x01" + struct.pack(">q", value)
+# The block of those rows, the block of the last two, and the block of their second columns.
+THREE_ROWS = ("0100000000030000003601000000000000000101000000000000000a010000000000000002010000000000000014"
+              "01000000000000000301000000000000001e")
+TWO_ROWS = "0100000000020000002401000000000000000201000000000000001401000000000000000301000000000000001e"
+THREE_NUMBERS = "0100000000030000001b01000000000000000a01000000000000001401000000000000001e"
 
-
-def row_bytes(row):
-    return b"".join(field_bytes(value) for value in row)
-
-
-def table_bytes(text, rows, batch=1000):
-    """A made table of this flow text: the rows in blocks of `batch`, and the end."""
-    image = b"\x01WHTABLE" + struct.pack(">II", 1, len(text)) + text
-    for first in range(0, len(rows), batch):
-        block = rows[first:first + batch]
-        stored = b"".join(row_bytes(row) for row in block)
-        image += b"\x01\x00" + struct.pack(">II", len(block), len(stored)) + stored
-    return image + b"\x01\x01" + bytes(8) + b"\x00"
-
-
-def folder(files):
-    path = tempfile.mkdtemp(prefix="whload load ")
-    for name, content in files.items():
-        with open(os.path.join(path, name), "wb") as file:
-            file.write(content)
-    return path
-
-
-def run(*words, **how):
-    done = subprocess.run([PROGRAM, *words], stdin=subprocess.DEVNULL, capture_output=True,
-                          timeout=60, **how)
-    return done.returncode, done.stdout, done.stderr
+# The end block, and the closed gate behind it.
+END = "0101000000000000000000"
 
 
 def shell(line, path):
@@ -66,36 +35,6 @@ def shell(line, path):
     done = subprocess.run(["bash", "-c", line], stdin=subprocess.DEVNULL, capture_output=True,
                           timeout=60, env={**os.environ, "W": PROGRAM, "D": path})
     return done.returncode, done.stdout, done.stderr
-
-
-def table_of(path):
-    name = os.path.join(path, "table.whl")
-    if not os.path.exists(name):
-        return None
-    with open(name, "rb") as file:
-        return file.read()
-
-
-def expect(what, got, want):
-    global passed
-    if got == want:
-        passed += 1
-    else:
-        failed.append(what)
-        print(f"FAILED {what}: got {got!r:.300}, want {want!r:.300}")
-
-
-def expect_load(what, files, rows):
-    path = folder(files)
-    expect(what, run("load", path), (0, REPORT % len(rows), b""))
-    expect(what + ": the table", table_of(path), table_bytes(files["flow.toml"], rows))
-    return path
-
-
-def expect_refusal(what, files, status, note):
-    path = folder(files)
-    expect(what, run("load", path), (status, b"", b"whload: " + note + b"\n"))
-    expect(what + ": no table", table_of(path), None)
 
 
 def nums(text):
@@ -139,86 +78,130 @@ def the_examples():
     expect_load("texts, decimals and empty fields", files, orders)
 
 
-def tables():
-    text = b"a,b\n1,10\n2,20\n3,30\n"
-    three = [(1, 10), (2, 20), (3, 30)]
-    path = folder(nums(text))
-    expect("blocks of two rows", run("load", path, "--batch", "2"), (0, REPORT % 3, b""))
-    expect("blocks of two rows: the table", table_of(path), table_bytes(FLOW, three, 2))
+def blocks():
+    """Tables of three rows, from the first gate on."""
+    node = b'node = [ { name = "some", kind = "%s", input = "nums", %s } ]\n'
+    taken = FLOW.replace(b'input = "nums"', b'input = "some"')
+    for what, flow, count, rows in [
+            ("three rows", FLOW, 3, THREE_ROWS),
+            ("a selection", taken + node % (b"select", b'where = "b >= 20"'), 2, TWO_ROWS),
+            ("a projection", taken + node % (b"project", b'columns = ["b as x"]'), 3, THREE_NUMBERS)]:
+        path = folder({"flow.toml": flow, "nums.csv": THREE})
+        expect(what, run("load", path), (0, REPORT % count, b""))
+        expect(what + ": the table", table_of(path).hex(), head_bytes(flow).hex() + rows + END)
 
-    # A table of which one block is committed, with what a stopped load left behind the gate.
-    whole = table_bytes(FLOW, three, 1)
-    one = len(b"\x01WHTABLE") + 8 + len(FLOW) + 10 + 18
-    files = dict(nums(text), **{"table.whl": whole[:one] + b"\x00" + b"\x01" * 50})
-    path = folder(files)
-    expect("a load that goes on", run("load", path, "--batch", "1"),
-           (0, b"complete\nbefore 1\nadded 2\nedge nums passed 2 dropped 1\n", b""))
-    expect("a load that goes on: the table", table_of(path)[:len(whole)], whole)
-
-    for what, table, note in [
-            ("a changed flow", table_bytes(FLOW + b" ", three), b"table.whl was made by another workflow"),
-            ("another name", b"\x01WHTABLF" + whole[8:], b"table.whl is not a table at 1"),
-            ("a block of no rows", whole[:one] + b"\x01\x00" + bytes(8) + b"\x00",
-             b"table.whl is not a table at %d" % one),
-            ("a row that isn't one", whole[:one - 18] + b"\x02" + whole[one - 17:],
-             b"table.whl is not a table at %d" % (one - 18))]:
-        path = folder(dict(nums(text), **{"table.whl": table}))
-        expect(what, run("load", path), (7, b"", b"whload: " + note + b"\n"))
-        expect(what + ": the table", table_of(path), table)
-
-
-def csv_forms():
-    three = [(1, 10), (2, 20), (3, 30)]
-    plain = b"a,b\n1,10\n2,20\n3,30\n"
-    expect_load("three rows", nums(plain), three)
-    expect_load("CRLF, quotes and a byte order mark",
-                nums(b'\xef\xbb\xbf"a",b\r\n1,"10"\r\n"2",20\r\n3,30\r\n'), three)
-    expect_load("no last line end", nums(plain[:-1]), three)
-    expect_load("signs and zeros", nums(b"a,b\n+1,-0\n-007,9223372036854775807\n"),
-                [(1, 0), (-7, 2**63 - 1)])
-    expect_load("the least number", nums(b"a,b\n-9223372036854775808,0\n"), [(-2**63, 0)])
-    expect_load("no rows", nums(b"a,b\n"), [])
-    many = [(i, i * i) for i in range(1000)]
+    for count in (1, 4096):
+        path = folder(nums(THREE))
+        expect(f"blocks of {count} rows", run("load", path, "--batch", str(count)), (0, REPORT % 3, b""))
+        expect(f"blocks of {count} rows: the table", table_of(path), table_bytes(FLOW, ROWS, count))
+    many = [(i, i * i) for i in range(2500)]
     text = b"a,b\n" + b"".join(b"%d,%d\n" % row for row in many)
-    expect_load("1,000 rows", nums(text), many)
-    expect_load("1,001 rows", nums(text + b"7,7\n"), many + [(7, 7)])
+    expect_load("2,500 rows", nums(text), many)
+    for count in (1000, 1001):
+        text = b"a,b\n" + b"".join(b"%d,%d\n" % row for row in many[:count])
+        expect_load(f"{count} rows", nums(text), many[:count])
 
 
-def refusals():
-    for what, text, note in [
-            ("a text in place of a number", b"a,b\n1,10\n2,x\n3,30\n", b" row 2 column 2: not a number"),
-            ("a number out of range", b"a,b\n1,9223372036854775808\n", b" row 1 column 2: number out of range"),
-            ("an empty field", b"a,b\n1,\n", b" row 1 column 2: empty field"),
-            ("a short record", b"a,b\n1\n", b": row 1 has another number of fields"),
-            ("a long record", b"a,b\n1,2,3\n", b": row 1 has another number of fields"),
-            ("another header", b"a,c\n1,2\n", b": header differs at column 2"),
-            ("an empty file", b"", b": header differs at column 1")]:
-        expect_refusal(what, nums(text), 4, b"source nums" + note)
-    expect_refusal("no source file", {"flow.toml": FLOW}, 4, b"source nums: file is missing")
-    expect_refusal("no flow", {"nums.csv": b"a,b\n1,10\n"}, 3, b"flow.toml is missing")
-    for what, text, note in [
-            ("a flow that isn't TOML", b"a = ", b"flow.toml is not TOML"),
-            ("a flow of other bytes", b"\xff\xfe", b"flow.toml is not TOML"),
-            ("an unknown key", b"more = 1\n" + FLOW, b"flow.toml top 0 more 0: unknown"),
-            ("a key twice", FLOW + FLOW, b"flow.toml is not TOML"),
-            ("an empty flow", b"", b"flow.toml top 0 table 0: absent"),
-            ("a flow of 65,537 bytes", FLOW + b"#" * (65537 - len(FLOW)),
-             b"flow.toml has 65537 bytes"),
-            ("a selection beside a text column", FLOW.replace(b"b int", b"b text").replace(b'input = "nums"', b'input = "big"')
-             + b'node = [ { name = "big", kind = "select", input = "nums", where = "a > 1" } ]\n',
-             b"flow.toml is not built yet"),
-            ("another input", FLOW.replace(b'input = "nums"', b'input = "more"'), b"table: no input more")]:
-        expect_refusal(what, {"flow.toml": text, "nums.csv": b"a,b\n"}, 3, note)
+# The gates of a table of one row in each block: of the head, of each block, of the end, and behind it.
+WHOLE = table_bytes(FLOW, ROWS, 1)
+GATES = [0] + [len(head_bytes(FLOW)) + 28 * i for i in range(4)] + [len(WHOLE) - 1]
+
+GONE_ON = "complete\nbefore %d\nadded %d\nedge nums passed %d dropped %d\n"
+
+MADE_ANEW = (0, REPORT % 3, b"")
+
+ENDED = (0, b"complete\nbefore 3\nadded 0\n", b"")
+
+
+def gone_on(before):
+    """What is said where so many rows stand in a table that isn't ended."""
+    if before == 0:
+        return MADE_ANEW
+    added = 3 - before
+    return 0, (GONE_ON % (before, added, added, before)).encode(), b""
+
+
+def wrong_at(place):
+    return 7, b"", b"whload: table.whl is not a table at %d\n" % place
+
+
+def expect_over(what, table, told):
+    """A load over this table, in blocks of one row: a refusal leaves it, and else all rows stand in it."""
+    path = folder(dict(nums(THREE), **{"table.whl": table}))
+    expect(what, run("load", path, "--batch", "1"), told)
+    if told[0] == 7 or told == ENDED:
+        expect(what + ": the table", table_of(path), table)
+    else:
+        expect(what + ": the table", table_of(path)[:len(WHOLE)], WHOLE)
+
+
+def with_byte(at, byte):
+    return WHOLE[:at] + bytes([byte]) + WHOLE[at + 1:]
+
+
+def standing_tables():
+    first, second = GATES[1], GATES[2]
+    # A table of which one block is committed, with what a stopped load left behind the gate.
+    expect_over("a load that goes on", WHOLE[:second] + b"\x00" + b"\x01" * 50, gone_on(1))
+    expect_over("a gate alone", b"\x01", MADE_ANEW)
+    expect_over("a file of another kind", b"some other file, longer than a head", MADE_ANEW)
+    expect_over("a short file of another kind", b"\x01WHTABLF.......", MADE_ANEW)
+    expect_over("a changed flow", table_bytes(FLOW + b" ", ROWS),
+                (7, b"", b"whload: table.whl was made by another workflow\n"))
+    expect_over("a changed byte of the flow", with_byte(16, ord("T")),
+                (7, b"", b"whload: table.whl was made by another workflow\n"))
+
+    # Places in the head, and in the first block: of its kind, its rows, its length, and its row.
+    for at, byte, place in [
+            (1, ord("w"), 1), (7, ord("F"), 1), (8, 1, 8), (11, 2, 8), (12, 1, 12), (15, 255, 12),
+            (first + 1, 2, first), (first + 5, 0, first), (first + 4, 17, first), (first + 7, 255, first),
+            (first + 10, 2, first + 10), (first + 19, 2, first + 10), (first + 5, 2, second),
+            (second + 1, 1, second), (GATES[4] + 5, 1, GATES[4]), (GATES[4] + 9, 1, GATES[4])]:
+        expect_over(f"the byte {byte} at {at}", with_byte(at, byte), wrong_at(place))
+    expect_over("a length past the end", with_byte(first + 8, 255), wrong_at(first))
+    expect_over("a block of no rows", WHOLE[:second] + b"\x01\x00" + bytes(8) + b"\x00", wrong_at(second))
+
+
+def gates_and_fronts():
+    # A gate is open at 1 alone.
+    for gate, told in zip(GATES, [MADE_ANEW] + [gone_on(count) for count in range(4)] + [ENDED]):
+        for byte in (0, 2, 9, 129, 255):
+            expect_over(f"the gate {byte} at {gate}", with_byte(gate, byte), told)
+    expect_over("a gate behind the end", with_byte(GATES[-1], 1), wrong_at(GATES[-1]))
+    # A front ends before its last gate, or right behind an open one.
+    for size in range(len(WHOLE)):
+        if size < 17:
+            told = MADE_ANEW
+        elif size <= GATES[1]:
+            told = wrong_at(12)
+        else:
+            told = wrong_at(max(gate for gate in GATES if gate < size))
+        expect_over(f"a front of {size} bytes", WHOLE[:size], told)
+
+
+def sources():
+    expect_refusal("no source file", {"flow.toml": FLOW}, 4, "source nums: file is missing")
+    expect_refusal("no flow", {"nums.csv": THREE}, 3, "flow.toml is missing")
+    # The source is named, and not the node above it.
+    node = b'node = [ { name = "big", kind = "select", input = "nums", where = "b >= 20" } ]\n'
+    flow = FLOW.replace(b'input = "nums"', b'input = "big"') + node
+    for text, note in [
+            (b"a,b\n1,10\n2,x\n", " row 2 column 2: not a number"),
+            (b"a,b\n1\n", ": row 1 has another number of fields"),
+            (b"a,c\n1,10\n", ": header differs at column 2")]:
+        expect_refusal("a faulty source below a node", {"flow.toml": flow, "nums.csv": text}, 4, "source nums" + note)
+    expect_refusal("no source below a node", {"flow.toml": flow}, 4, "source nums: file is missing")
     longest = FLOW + b"#" * (65536 - len(FLOW))
-    expect_load("a flow of 65,536 bytes", {"flow.toml": longest, "nums.csv": b"a,b\n1,2\n"}, [(1, 2)])
-    expect_refusal_of_words()
+    expect_load("a flow of 65,536 bytes", {"flow.toml": longest, "nums.csv": THREE}, ROWS)
 
 
-def expect_refusal_of_words():
+def words():
     usage = (b"whload: usage: whload load DIR [--batch N], explain DIR, check DIR, dump DIR, "
              b"pack DIR SOURCE, drill N\n")
     for words in ([], ["load"], ["load", ".", "more"], ["Load", "."], ["dump", "."], ["--help"],
-                  ["load", ".", "--batch"], ["load", ".", "--batch", "0"], ["load", ".", "--batch", "4097"]):
+                  ["load", ".", "--batch"], ["load", ".", "--batch", "0"], ["load", ".", "--batch", "4097"],
+                  ["load", ".", "--batch", "007"], ["load", ".", "--batch", "+7"], ["load", ".", "--batch", ""],
+                  ["load", ".", "--size", "7"]):
         expect(f"the words {words}", run(*words), (2, b"", usage))
     expect("a word that isn't UTF-8", run("load", os.fsencode("\udcff")), (2, b"", usage))
 
@@ -269,19 +252,6 @@ def devices():
     expect("a folder by `.`", (done.returncode, table_of(path)), (0, want))
 
 
-def main():
-    if not os.path.exists(PROGRAM):
-        print("tests/real_files.py: there is no program to run; run the gate first")
-        return 1
-    for part in (the_examples, tables, csv_forms, refusals, devices):
-        part()
-    print(f"real files: {passed} passed, {len(failed)} failed")
-    return 1 if failed else 0
-
-
 if __name__ == "__main__":
-    code = main()
-    for name in os.listdir(tempfile.gettempdir()):
-        if name.startswith("whload load "):
-            shutil.rmtree(os.path.join(tempfile.gettempdir(), name), ignore_errors=True)
-    sys.exit(code)
+    sys.exit(run_parts("real files", [the_examples, blocks, standing_tables, gates_and_fronts, sources, words,
+                                      devices]))

@@ -25,6 +25,3 @@ pub use block::{Block, FULL_BYTES, MAX_ROW_BYTES, MAX_ROWS};
 pub use block_head::BlockHead;
 pub use journal::{Journal, MAX_FLOW_BYTES, fits, make};
 pub use laws::{holds_once, verdicts_agree};
-
-#[cfg(test)]
-mod tests;

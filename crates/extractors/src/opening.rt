@@ -69,6 +69,3 @@ fn open_within<D: Depot>(
         Err(Stop::Fault(_)) => Err(Stop::Fault(CsvFault::Depot)),
     }
 }
-
-#[cfg(test)]
-mod tests;

@@ -82,6 +82,3 @@ impl CsvSource {
         rows.into_tuples(alloc)
     }
 }
-
-#[cfg(test)]
-mod tests;

@@ -11,8 +11,6 @@
 
 mod evaluation;
 mod kinds;
-#[cfg(test)]
-mod tests;
 mod transform;
 
 pub use evaluation::whole;

@@ -27,6 +27,3 @@ pub use fault::{LoadFault, SourceFault, SourceWhat};
 pub use laws::{any_loads, found_once};
 pub use report::{EdgeCount, Report, ReportEdges};
 pub use running::load;
-
-#[cfg(test)]
-mod tests;

@@ -18,6 +18,3 @@ pub use expr::{Comparison, Expr, Truth};
 pub use laws::expression_laws;
 pub use reading::{is_built, number_of, parse};
 pub use rows::{truth, truth_at};
-
-#[cfg(test)]
-mod tests;

@@ -158,6 +158,3 @@ impl Batch {
         }
     }
 }
-
-#[cfg(test)]
-mod tests;

@@ -78,6 +78,3 @@ fn append_last_digits(number: u64, count: u8, into: &mut Vec<u8>) -> Result<(), 
     into.push(b'0' + (number % 10) as u8)?;
     Ok(())
 }
-
-#[cfg(test)]
-mod tests;

@@ -19,6 +19,3 @@ mod table;
 pub use laws::rows_laws;
 pub use next::next_block;
 pub use table::verify;
-
-#[cfg(test)]
-mod tests;

@@ -16,6 +16,3 @@ mod writer;
 
 pub use laws::{blocks_laws, cut_laws, still_laws, stopped_laws};
 pub use writer::{WriteFault, Writer};
-
-#[cfg(test)]
-mod tests;

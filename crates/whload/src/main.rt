@@ -13,8 +13,6 @@
 #![tactic(auto)]
 
 mod carry;
-#[cfg(test)]
-mod column_tests;
 mod dump;
 mod find;
 mod flow;

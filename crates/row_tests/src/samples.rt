@@ -5,7 +5,7 @@ use std::alloc::Global;
 use std::test::Fail;
 use tuple_schema::{Column, ColumnKind, Schema, Text};
 
-fn column(alloc: Global, name: &str, kind: ColumnKind, nullable: bool) -> Result<Column, Fail>
+pub fn column(alloc: Global, name: &str, kind: ColumnKind, nullable: bool) -> Result<Column, Fail>
     ensures name { IfOk result (λ c. c.name ≡ name.now) }
     ensures kind { IfOk result (λ c. c.kind ≡ kind) }
 {
@@ -18,17 +18,15 @@ fn column(alloc: Global, name: &str, kind: ColumnKind, nullable: bool) -> Result
 }
 
 // id int, amt dec2?, name text?
-pub(crate) fn orders(alloc: Global) -> Result<Schema, Fail> {
+pub fn orders(alloc: Global) -> Result<Schema, Fail> {
     let id = column(alloc, "id", ColumnKind::Int, false)?;
     let amt = column(alloc, "amt", ColumnKind::Dec(2), true)?;
     let name = column(alloc, "name", ColumnKind::Text, true)?;
     Ok(Schema::of(vec![in alloc; id, amt, name]?))
 }
 
-// t text, d dec1, n int?
-pub(crate) fn others(alloc: Global) -> Result<Schema, Fail> {
-    let text = column(alloc, "t", ColumnKind::Text, false)?;
-    let dec = column(alloc, "d", ColumnKind::Dec(1), false)?;
-    let int = column(alloc, "n", ColumnKind::Int, true)?;
-    Ok(Schema::of(vec![in alloc; text, dec, int]?))
+// One int that may not be Null: its rows have nine bytes.
+pub fn one_int(alloc: Global) -> Result<Schema, Fail> {
+    let column = column(alloc, "a", ColumnKind::Int, false)?;
+    Ok(Schema::of(vec![in alloc; column]?))
 }
