@@ -1,4 +1,4 @@
-//! Tests of `outside`: what its devices do, those over real files among them, of which nothing is proved.
+//! Tests of `outside`: what its devices over real files do, of which nothing is proved.
 //!
 //! They stand in a crate of their own since a crate with tests is proved twice. `recording.rt` is a runtime with files
 //! in memory, which keeps the calls that are made on them: by it the tests show where the devices write, what they sync
@@ -9,12 +9,6 @@
 mod file_disk;
 #[cfg(test)]
 mod folder_depot;
-#[cfg(test)]
-mod memory_depot;
-#[cfg(test)]
-mod memory_disk;
-#[cfg(test)]
-mod memory_sink;
 #[cfg(test)]
 mod recording;
 #[cfg(test)]
