@@ -14,6 +14,8 @@
 
 mod carry;
 mod dump;
+#[cfg(test)]
+mod dump_tests;
 mod find;
 mod flow;
 mod laws;

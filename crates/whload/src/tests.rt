@@ -54,8 +54,8 @@ pub struct Left {
     pub said: String,
     /// The table's file, as a crash leaves it.
     pub table: Vec<u8>,
-    served: u64,
-    starved: u64,
+    pub served: u64,
+    pub starved: u64,
 }
 
 fn folder(alloc: Global, given: &Given<'_>) -> Result<MemoryDepot, Fail> {
