@@ -106,7 +106,7 @@ def blocks():
 WHOLE = table_bytes(FLOW, ROWS, 1)
 GATES = [0] + [len(head_bytes(FLOW)) + 28 * i for i in range(4)] + [len(WHOLE) - 1]
 
-GONE_ON = "complete\nbefore %d\nadded %d\nedge nums passed %d dropped %d\n"
+GONE_ON = b"complete\nbefore %d\nadded %d\nedge nums passed %d dropped %d\n"
 
 MADE_ANEW = (0, REPORT % 3, b"")
 
@@ -118,7 +118,7 @@ def gone_on(before):
     if before == 0:
         return MADE_ANEW
     added = 3 - before
-    return 0, (GONE_ON % (before, added, added, before)).encode(), b""
+    return 0, GONE_ON % (before, added, added, before), b""
 
 
 def wrong_at(place):
