@@ -1,11 +1,13 @@
 -- The promise of a load, for each way in which it ends.
 use Rattle.std.proofs.Common.{◌≡◌, ◌≢◌, ◌≤◌, inl, inr, ◌∙◌, ℕ, ◌+◌, List, [], ◌++◌, length, take, drop, All, IfOk, OnOk, Bool, true, false, IsTrue, Option, Some, Result, Ok, Err, refl, sym, ap, subst, arith}
+use Rattle.std.specs.Bool.{⊤}
 use Rattle.outside.specs.Moments.{rose_later, each_settled, spares_on}
 use Rattle.outside.specs.Words.{Rose, Each, DiskState, Elapses, IsSettled, Spares, Files, DepotState, Consults}
 use Rattle.tuple_schema.specs.declared.value.Value.{Value}
 use Rattle.tuple_schema.specs.declared.schema.Column.{Column}
 use Rattle.tuple_schema.specs.declared.memory.Stop.{Stop}
 use Rattle.tuple_schema.specs.declared.memory.Stop.TheVariants.{Memory, Fault}
+use Rattle.tuple_schema.specs.Stops.{IfFault}
 use Rattle.row_codec.specs.Decoding.{IsRowOf}
 use Rattle.commit_disk.specs.declared.attaching.Attached.{Attached}
 use Rattle.commit_disk.specs.declared.attaching.TableFault.{TableFault}
@@ -21,6 +23,7 @@ use Rattle.table_write.specs.Cut.{cut, together}
 use Rattle.table_write.specs.Adds.{with_blocks, AllHaveRoom, IsFullBehind}
 use Rattle.table_write.specs.Rows.{HoldsRows}
 use Rattle.flow_types.specs.declared.node.Node.{Node}
+use Rattle.flow_types.specs.Linked.{IsFlow}
 use Rattle.flow_types.specs.Flows.{root_in, has_fixed_root}
 use Rattle.load_runner.specs.declared.fault.SourceFault.{SourceFault}
 use Rattle.load_runner.specs.declared.fault.LoadFault.TheVariants as fault
@@ -38,7 +41,7 @@ use Rattle.load_runner.specs.Safe.{IsStopped, IsSafe, HoldsAll}
 use Rattle.load_runner.specs.Sources.{by_depot, contents_in, IsMeaning}
 use Rattle.load_runner.specs.Starts.{IsAt, count_of, gate_of}
 use Rattle.load_runner.proofs.Begun.{BlocksHold}
-use Rattle.load_runner.proofs.Meanings.{Resumed}
+use Rattle.load_runner.proofs.Meanings.{Resumed, LastIsRoot, resumed, made_is_meaning}
 use Rattle.load_runner.proofs.Ran.{missing_of, tables_kept, none_ended, kept_all, safe_all, grows_all, CutIs, StillFirst, StillEnded, CanResume, MeansOne, Ran, in_rows, begins_committed, committed, olds, held, decodes, at, is_at, counted, adds, added_rows}
 use Rattle.load_runner.specs.Standing.{Stands}
 use Rattle.load_runner.proofs.Standings.{Lengths, Appended, all_of_stands, all_rows}
@@ -127,7 +130,11 @@ module _ (agree : VerdictsAgree) (once : HoldsOnce) (job : Job) (depot : DepotSt
     served = λ files told. omega arith;
   }
 
-  refused_rests : (s : Stop TableFault) → (s ≡ Fault table_fault.Disk → Rose disk.faults now.faults) → RestsOn job depot depot disk now (Err (of_table s))
+  -- the disk is blamed only where it failed
+  abbrev pub CausedBy : Stop TableFault → Type 0
+  CausedBy s = let answer : Result Attached (Stop TableFault) = Err s in IfFault answer (λ f. f ≡ table_fault.Disk → Rose disk.faults now.faults)
+
+  refused_rests : (s : Stop TableFault) → CausedBy s → RestsOn job depot depot disk now (Err (of_table s))
   refused_rests Memory cause = tt
   refused_rests (Fault table_fault.Disk) cause = cause refl
   refused_rests (Fault (table_fault.NotATable place)) cause = tt
@@ -137,7 +144,7 @@ module _ (agree : VerdictsAgree) (once : HoldsOnce) (job : Job) (depot : DepotSt
   pub refused : StillFirst → StillEnded → (s : Stop TableFault) → Elapses disk now
       → ((place : ℕ) → s ≡ Fault (table_fault.NotATable place) → IsTrue disk.honest → IsFound disk.file job.text (columns_of job) (wrong place))
       → (s ≡ Fault table_fault.WorkflowDiffers → IsTrue disk.honest → IsFound disk.file job.text (columns_of job) other)
-      → (s ≡ Fault table_fault.Disk → Rose disk.faults now.faults) → Loads job depot depot disk now (Err (of_table s))
+      → CausedBy s → Loads job depot depot disk now (Err (of_table s))
   refused first ended s elapses no_table differs cause =
       spared first ended (Err (of_table s)) elapses
       (λ is state found. refused_does s (λ place at. no_table place at is) (λ at. differs at is) state found)
@@ -255,7 +262,7 @@ module _ (agree : VerdictsAgree) (once : HoldsOnce) (law : BlocksHold) (cuts : C
           (by_count (λ n. IsStopped mid.file job.text olds_of (missing_blocks job.batch n whole) new.may_leave) (fails.stops settled_mid on olds_of at_olds)));
     }
 
-    pub write_leaves : {X : Type 0} (s : Stop WriteFault) → (let answer : Result X (Stop WriteFault) = Err s in Finishes missing mid new answer)
+    pub write_leaves : (s : Stop WriteFault) → (let answer : Result ⊤ (Stop WriteFault) = Err s in Finishes missing mid new answer)
         → Leaves job told rows_of olds_of (gate_of found_of job.text) old new (Err (of_write s))
     write_leaves Memory reads = spares_on old mid new ran.began ran.spares reads
     write_leaves (Fault write.Full) fills = full fills
@@ -301,44 +308,51 @@ sources_leave job told had stored gate disk now (Fault f) spares = by_what f.wha
     by_what (what.Csv csv.Depot) = spares
     by_what (what.Csv csv.Missing) = spares
     by_what (what.Csv (csv.TooLarge size)) = spares
-    by_what (what.Csv (csv.BadHeader at)) = spares
+    by_what (what.Csv (csv.BadHeader column)) = spares
     by_what (what.Csv (csv.BadCsv row)) = spares
     by_what (what.Csv (csv.BadRow row column cause)) = spares
 
 -- on what it rests
 pub sources_rest : (job : Job) (depot still : DepotState) (disk now : DiskState) (s : Stop SourceFault)
     → ((f : SourceFault) → s ≡ Fault f → f.what ≢ by_depot → (files : Files) → depot.files ≡ Some files → contents_in job.flow.nodes files ≡ Err f)
-    → ((f : SourceFault) → s ≡ Fault f → f.what ≡ by_depot → Rose depot.faults still.faults) → RestsOn job depot still disk now (Err (of_sources s))
+    → (let answer : Result (List (List Value)) (Stop SourceFault) = Err s in IfFault answer (λ f. f.what ≡ by_depot → Rose depot.faults still.faults))
+    → RestsOn job depot still disk now (Err (of_sources s))
 sources_rest job depot still disk now Memory first cause = tt
 sources_rest job depot still disk now (Fault f) first cause = by_what f.what refl
   where
     by_what : (w : SourceWhat) → f.what ≡ w → RestsOn job depot still disk now (Err (Fault (of_source f w)))
-    by_what (what.Csv csv.Depot) is = cause f refl is
+    by_what (what.Csv csv.Depot) is = cause is
     by_what (what.Csv csv.Missing) is = first f refl (λ depot. cc)
     by_what (what.Csv (csv.TooLarge size)) is = first f refl (λ depot. cc)
-    by_what (what.Csv (csv.BadHeader at)) is = first f refl (λ depot. cc)
+    by_what (what.Csv (csv.BadHeader column)) is = first f refl (λ depot. cc)
     by_what (what.Csv (csv.BadCsv row)) is = first f refl (λ depot. cc)
     by_what (what.Csv (csv.BadRow row column cause)) is = first f refl (λ depot. cc)
 
 -- on what a stop of writing rests
-pub write_rests : {X : Type 0} (job : Job) (depot still : DepotState) (old mid new : DiskState) (adding : Addition) (s : Stop WriteFault) → old.faults ≤ mid.faults
-    → (let answer : Result X (Stop WriteFault) = Err s in Finishes adding mid new answer) → RestsOn job depot still old new (Err (of_write s))
-write_rests job depot still old mid new adding Memory later reads = tt
-write_rests job depot still old mid new adding (Fault write.Full) later fills = tt
-write_rests job depot still old mid new adding (Fault write.Disk) later fails = rose_later old.faults mid.faults new.faults later fails.rose
+pub write_rests : (job : Job) (depot still : DepotState) (old mid new : DiskState) (added : Addition) (s : Stop WriteFault) → old.faults ≤ mid.faults
+    → (let answer : Result ⊤ (Stop WriteFault) = Err s in Finishes added mid new answer) → RestsOn job depot still old new (Err (of_write s))
+write_rests job depot still old mid new added Memory later reads = tt
+write_rests job depot still old mid new added (Fault write.Full) later fills = tt
+write_rests job depot still old mid new added (Fault write.Disk) later fails = rose_later old.faults mid.faults new.faults later fails.rose
 
 -- a load that went on behind what was found
 module _ (agree : VerdictsAgree) (once : HoldsOnce) (law : BlocksHold) (cuts : CutIs) (job : Job) (depot still : DepotState) (found_of : Attached) (old mid new : DiskState)
-    (ran : IsTrue old.honest → Ran job depot.files found_of old mid new) (can : CanResume job depot.files) where
+    (ran : IsTrue old.honest → Ran job depot.files found_of old mid new) (flow : IsFlow job.flow) (last : LastIsRoot) (fixed : IsTrue (has_fixed_root job.flow.nodes)) where
+  can : CanResume job depot.files
+  can = λ had whole made. resumed job.flow flow last depot.files had whole made
+
+  means_one : MeansOne job depot.files
+  means_one = λ files are whole made means makes. made_is_meaning job.flow flow fixed files depot.files are whole made means makes
+
   -- what its answer leaves
   abbrev pub LeavesThere : Answer → Type 0
   LeavesThere answer = (is : IsTrue old.honest) → Leaves job depot.files (committed agree once law job depot.files found_of old mid new (ran is))
       (olds agree once law job depot.files found_of old mid new (ran is)) (gate_of found_of job.text) old new answer
 
-  pub loads : StillFirst → StillEnded → Appended → MeansOne job depot.files → IsTrue (has_fixed_root job.flow.nodes) → 1 ≤ job.batch → Consults depot still → Elapses old new
+  pub loads : StillFirst → StillEnded → Appended → 1 ≤ job.batch → Consults depot still → Elapses old new
       → ((files : Files) → depot.files ≡ Some files → still.served ≤ depot.served + asked_bytes job.flow.nodes files)
       → (answer : Answer) → LeavesThere answer → RestsOn job depot still old new answer → Completes job depot old new answer → Loads job depot still old new answer
-  loads first ended appended means_one fixed some consults elapses served answer leaves rests completes = record {
+  loads first ended appended some consults elapses served answer leaves rests completes = record {
     consults = consults;
     elapses = elapses;
     loses_nothing = record {

@@ -19,12 +19,13 @@ use Rattle.table_write.specs.Rows.{HoldsRows, HoldsFirst, HoldsEnded, stored_of}
 use Rattle.load_runner.specs.Adding.{Addition, OfOlds, LeavesGrown}
 use Rattle.load_runner.specs.Standing.{Begins}
 use Rattle.load_runner.specs.Safe.{IsSafe, TableGrows, IsGrown}
-use Rattle.load_runner.specs.Sources.{IsMeaning}
+use Rattle.load_runner.specs.Sources.{IsMeaning, columns_of_last}
 use Rattle.load_runner.specs.Starts.{Starts, IsAt, count_of, is_ended, gate_of}
 use Rattle.load_runner.specs.Jobs.{Job, columns_of, run_blocks, IsMade, missing_blocks}
 use Rattle.load_runner.specs.Loads.{IsNextGate, AddsRun}
 use Rattle.list_algebra.specs.Bags.{Tuple}
-use Rattle.flow_types.specs.Flows.{has_fixed_root}
+use Rattle.flow_types.specs.declared.node.Node.{Node}
+use Rattle.flow_types.specs.Flows.{root_in, has_fixed_root}
 use Rattle.load_runner.proofs.Meanings.{Resumed}
 use Rattle.load_runner.proofs.Standings.{Appended, begins_both, begins_longer, front_stands}
 use Rattle.load_runner.proofs.Tables.{rows_once, not_both}
@@ -93,6 +94,23 @@ pub record Began (job : Job) (found : Attached) (old mid : DiskState) : Type 0 w
   pub syncs : Syncs old mid
   pub starts : IsTrue old.honest → Starts found mid.file job.text (columns_of job)
   pub unended : is_ended found ≡ false
+
+-- of the root's columns
+pub began_of : (job : Job) (found : Attached) (old mid : DiskState) (root : Node) → Some root ≡ root_in job.flow.nodes → Elapses old mid → Spares old mid → Syncs old mid
+    → (IsTrue old.honest → Starts found mid.file job.text root.schema) → false ≡ is_ended found → Began job found old mid
+began_of job found old mid root last time spares syncs starts unended = record {
+  time = time;
+  spares = spares;
+  syncs = syncs;
+  starts = λ honest. subst (λ columns. Starts found mid.file job.text columns) (ap columns_of_last last) (starts honest);
+  unended = sym unended;
+}
+
+pub missing_is : (job : Job) (found : Attached) (whole : List (List Value)) (root : Node) → Some root ≡ root_in job.flow.nodes → (rows : List (List Value)) → rows ≡ drop (count_of found) whole
+    → (Fact : Addition → Type 0) → Fact (record { found = found; text = job.text; columns = root.schema; batch = job.batch; rows = rows }) → Fact (missing_of job found whole)
+missing_is job found whole root last rows are Fact fact =
+    let Of : List Column → List (List Value) → Type 0 = λ columns rows. Fact (record { found = found; text = job.text; columns = columns; batch = job.batch; rows = rows }) in
+    subst (Of (columns_of job)) are (subst (λ columns. Of columns rows) (ap columns_of_last last) fact)
 
 -- a load that wrote nothing then
 pub only_read : (job : Job) (told : Option Files) (found : Attached) (old mid : DiskState) → Began job found old mid → IsTrue old.honest → Ran job told found old mid mid
