@@ -3,6 +3,7 @@ pub mod Standings
 pub mod Steps
 pub mod Tables
 pub mod Begun
+pub mod Added
 pub mod Ran
 pub mod Loaded
 pub mod Contents

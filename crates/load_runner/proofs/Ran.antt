@@ -1,7 +1,7 @@
 -- A load that went on: what a crash leaves at each moment of it, and what stands behind it.
 use Rattle.std.proofs.Common.{◌≡◌, ◌≤◌, ◌⊎◌, inl, inr, ⊎_elim, ◌∙◌, ℕ, ◌+◌, List, [], ◌++◌, length, take, drop, All, Bool, true, false, IsTrue, Option, Some, Ok, map, sym, ap, subst, append_assoc, append-nil, arith}
 use Rattle.outside.specs.Words.{Each, DiskState, Elapses, IsSettled, Syncs, Spares, OnlyReads, LeftBetween, AtEachMoment, LeavesNothingNew, Files}
-use Rattle.outside.specs.Moments.{each_on, each_settled, nothing_new_on}
+use Rattle.outside.specs.Moments.{each_on, each_settled, nothing_new_on, no_time, no_read}
 use Rattle.tuple_schema.specs.declared.value.Value.{Value}
 use Rattle.tuple_schema.specs.declared.schema.Column.{Column}
 use Rattle.commit_disk.specs.declared.attaching.Attached.{Attached}
@@ -16,14 +16,16 @@ use Rattle.table_write.specs.Cut.{IsCut, cut, together}
 use Rattle.table_read.specs.Rows.{table_rows}
 use Rattle.table_write.specs.Adds.{with_blocks}
 use Rattle.table_write.specs.Rows.{HoldsRows, HoldsFirst, HoldsEnded, stored_of}
+use Rattle.load_runner.specs.Adding.{Addition, OfOlds, LeavesGrown}
 use Rattle.load_runner.specs.Standing.{Begins}
 use Rattle.load_runner.specs.Safe.{IsSafe, TableGrows, IsGrown}
-use Rattle.load_runner.specs.Sources.{IsMeaning}
+use Rattle.load_runner.specs.Sources.{IsMeaning, columns_of_last}
 use Rattle.load_runner.specs.Starts.{Starts, IsAt, count_of, is_ended, gate_of}
 use Rattle.load_runner.specs.Jobs.{Job, columns_of, run_blocks, IsMade, missing_blocks}
 use Rattle.load_runner.specs.Loads.{IsNextGate, AddsRun}
 use Rattle.list_algebra.specs.Bags.{Tuple}
-use Rattle.flow_types.specs.Flows.{has_fixed_root}
+use Rattle.flow_types.specs.declared.node.Node.{Node}
+use Rattle.flow_types.specs.Flows.{root_in, has_fixed_root}
 use Rattle.load_runner.proofs.Meanings.{Resumed}
 use Rattle.load_runner.proofs.Standings.{Appended, begins_both, begins_longer, front_stands}
 use Rattle.load_runner.proofs.Tables.{rows_once, not_both}
@@ -74,6 +76,72 @@ pub record Ran (job : Job) (told : Option Files) (found : Attached) (old mid new
       → OnlyReads mid new ⊎ ((whole : List (List Value)) × IsMade job.flow told whole
       × Each (LeftBetween mid new) (IsGrown mid.file job.text (columns_of job) olds (missing_blocks job.batch (count_of found) whole)))
   pub grows : (olds : List Stored) → IsAt found mid.file job.text olds → OnlyReads mid new ⊎ Grows job.text mid new
+
+-- the rows that are missing behind what was found
+abbrev pub missing_of : Job → Attached → List (List Value) → Addition
+missing_of job found whole = record {
+  found = found;
+  text = job.text;
+  columns = columns_of job;
+  batch = job.batch;
+  rows = drop (count_of found) whole;
+}
+
+-- what the beginning of a load found, in a table that isn't ended
+pub record Began (job : Job) (found : Attached) (old mid : DiskState) : Type 0 where
+  pub time : Elapses old mid
+  pub spares : Spares old mid
+  pub syncs : Syncs old mid
+  pub starts : IsTrue old.honest → Starts found mid.file job.text (columns_of job)
+  pub unended : is_ended found ≡ false
+
+-- of the root's columns
+pub began_of : (job : Job) (found : Attached) (old mid : DiskState) (root : Node) → Some root ≡ root_in job.flow.nodes → Elapses old mid → Spares old mid → Syncs old mid
+    → (IsTrue old.honest → Starts found mid.file job.text root.schema) → false ≡ is_ended found → Began job found old mid
+began_of job found old mid root last time spares syncs starts unended = record {
+  time = time;
+  spares = spares;
+  syncs = syncs;
+  starts = λ honest. subst (λ columns. Starts found mid.file job.text columns) (ap columns_of_last last) (starts honest);
+  unended = sym unended;
+}
+
+pub missing_is : (job : Job) (found : Attached) (whole : List (List Value)) (root : Node) → Some root ≡ root_in job.flow.nodes → (rows : List (List Value)) → rows ≡ drop (count_of found) whole
+    → (Fact : Addition → Type 0) → Fact (record { found = found; text = job.text; columns = root.schema; batch = job.batch; rows = rows }) → Fact (missing_of job found whole)
+missing_is job found whole root last rows are Fact fact =
+    let Of : List Column → List (List Value) → Type 0 = λ columns rows. Fact (record { found = found; text = job.text; columns = columns; batch = job.batch; rows = rows }) in
+    subst (Of (columns_of job)) are (subst (λ columns. Of columns rows) (ap columns_of_last last) fact)
+
+-- a load that wrote nothing then
+pub only_read : (job : Job) (told : Option Files) (found : Attached) (old mid : DiskState) → Began job found old mid → IsTrue old.honest → Ran job told found old mid mid
+only_read job told found old mid start is = record {
+  honest = is;
+  began = start.time;
+  spares = start.spares;
+  syncs = start.syncs;
+  time = no_time mid;
+  starts = start.starts is;
+  unended = start.unended;
+  moments = λ olds there. inl (no_read mid);
+  grows = λ olds there. inl (no_read mid);
+}
+
+-- and one that added what was missing
+pub has_added : (job : Job) (told : Option Files) (found : Attached) (old mid new : DiskState) → Began job found old mid → Elapses mid new → (whole : List (List Value)) → IsMade job.flow told whole
+    → (IsSettled mid → OfOlds (missing_of job found whole) mid (λ olds. LeavesGrown (missing_of job found whole) olds mid new)) → IsTrue old.honest → Ran job told found old mid new
+has_added job told found old mid new start time whole made grown is =
+    let grown_there = grown (start.syncs.settled is) (start.time.honest ∙ is) in
+    record {
+      honest = is;
+      began = start.time;
+      spares = start.spares;
+      syncs = start.syncs;
+      time = time;
+      starts = start.starts is;
+      unended = start.unended;
+      moments = λ olds there. inr (whole, made, (grown_there olds there).each);
+      grows = λ olds there. inr (grown_there olds there).grows;
+    }
 
 module _ (agree : VerdictsAgree) (once : HoldsOnce) (law : BlocksHold) (job : Job) (told : Option Files) (found : Attached) (old mid new : DiskState) (ran : Ran job told found old mid new) where
   abbrev columns : List Column

@@ -1,14 +1,8 @@
--- What was read, and what a stop of reading says.
+-- What verifying says of a reading.
 use Rattle.std.proofs.Common.{◌≡◌, ℕ, Some, None, Result, Ok, Err, refl, ap}
 use Rattle.std.proofs.lemmas.Option.{same_Some}
 use Rattle.tuple_schema.specs.declared.memory.Stop.{Stop}
-use Rattle.tuple_schema.specs.declared.memory.Stop.TheVariants as stop
-use Rattle.commit_disk.specs.declared.attaching.TableFault.{TableFault}
-use Rattle.commit_disk.specs.declared.attaching.TableFault.TheVariants as table
 use Rattle.table_read.specs.Places.{wrong_place}
-use Rattle.load_runner.specs.declared.fault.LoadFault.{LoadFault}
-use Rattle.load_runner.specs.declared.fault.LoadFault.TheVariants as fault
-use Rattle.load_runner.specs.Starts.{stop_of_table}
 
 -- where no place is wrong, all was read
 pub all_read : {X : Type 0} (reading : Result X ℕ) → wrong_place reading ≡ None → (x : X) × (reading ≡ Ok x)
@@ -19,13 +13,6 @@ pub wrong_read : {X : Type 0} (reading : Result X ℕ) (place : ℕ) → wrong_p
 wrong_read (Ok x) place is = cc
 wrong_read (Err other) place is = ap Err (same_Some _ _ is)
 
--- a wrong place is answered only of a wrong place
-place_of : LoadFault → ℕ
-place_of (fault.NotATable place) = place
-place_of other = 0
-
-pub stopped_at : (s : Stop TableFault) (place : ℕ) → stop_of_table s ≡ stop.Fault (fault.NotATable place) → s ≡ stop.Fault (table.NotATable place)
-stopped_at stop.Memory place is = cc
-stopped_at (stop.Fault table.Disk) place is = cc
-stopped_at (stop.Fault (table.NotATable other)) place is = cc
-stopped_at (stop.Fault table.WorkflowDiffers) place is = cc
+-- one stop is answered
+pub same_stop : {T F : Type 0} (one other : Stop F) → (let answer : Result T (Stop F) = Err one in answer) ≡ Err other → one ≡ other
+same_stop one other is = cc

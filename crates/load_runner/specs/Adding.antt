@@ -1,6 +1,6 @@
 -- What adding rows to the table that was found does.
 use Rattle.std.specs.Prelude.{◌≡◌, ℕ, List, take, All, IsTrue, Result, Ok, Err, true, false}
-use Rattle.outside.specs.Words.{Rose, Each, DiskState, IsSettled, LeftBetween, Spares}
+use Rattle.outside.specs.Words.{Rose, Each, DiskState, IsSettled, LeftBetween, OnlyReads}
 use Rattle.tuple_schema.specs.declared.schema.Column.{Column}
 use Rattle.tuple_schema.specs.declared.memory.Stop.{Stop}
 use Rattle.tuple_schema.specs.declared.memory.Stop.TheVariants.{Memory, Fault}
@@ -59,10 +59,10 @@ pub record FailsBetween (adding : Addition) (disk now : DiskState) : Type 0 wher
   pub stops : IsSettled disk
       → OfOlds adding disk (λ olds. IsStopped disk.file adding.text olds (blocks_of adding) now.may_leave)
 
--- what each answer says; where no memory is found, nothing is written
+-- what each answer says; where no memory is found, nothing was written
 abbrev pub Finishes : {X : Type 0} → Addition → DiskState → DiskState → Result X (Stop WriteFault) → Type 0
 Finishes adding disk now (Ok x) = EndsTable adding disk now
-Finishes adding disk now (Err Memory) = Spares disk now
+Finishes adding disk now (Err Memory) = OnlyReads disk now
 Finishes adding disk now (Err (Fault write.Full)) = FillsTable adding disk now
 Finishes adding disk now (Err (Fault write.Disk)) = FailsBetween adding disk now
 

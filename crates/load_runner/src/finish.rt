@@ -18,6 +18,7 @@ use table_write::{WriteFault, Writer};
 use tuple_schema::{Schema, Stop, Tuple};
 
 /// Makes the table where it isn't made, commits the rows behind those that it has, and ends it.
+#[tactic(auto, using(outside::specs::Moments::no_read))]
 pub fn finish<K: Disk>(
     alloc: Global,
     disk: &mut K,
