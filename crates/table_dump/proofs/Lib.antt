@@ -1,0 +1,4 @@
+pub mod Puts
+pub mod Rows
+pub mod Printing
+pub mod Walks
