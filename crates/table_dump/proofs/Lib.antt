@@ -1,3 +1,4 @@
+pub mod Dumped
 pub mod Puts
 pub mod Rows
 pub mod Printing
