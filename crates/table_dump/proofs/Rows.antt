@@ -1,7 +1,10 @@
 -- Rows that are put, block by block.
-use Rattle.std.proofs.Common.{◌≡◌, ◌≤◌, ◌+◌, ℕ, List, [], ◌++◌, All, Result, Ok, Err, refl, sym, ap, subst, ◌∙◌, arith}
+use Rattle.std.proofs.Common.{◌≡◌, ◌≤◌, ◌+◌, ℕ, List, [], ◌∷◌, ◌++◌, take, All, OnOk, Option, Some, Result, Ok, Err, refl, sym, ap, subst, ◌∙◌, add-one, append-nil, arith}
+use Rattle.std.specs.Prelude.{slice_get}
+use Rattle.std.proofs.Math.Seq.{take-suc}
+use Rattle.std.proofs.lemmas.Option.{slice_get_within, get_or_from_slice_get}
 use Rattle.std.proofs.lemmas.List.Concat.{flat_map-append}
-use Rattle.std.proofs.lemmas.List.Elements.{All-nil, All-append}
+use Rattle.std.proofs.lemmas.List.Elements.{All-nil, All-append, All-push}
 use Rattle.outside.specs.Counts.{Rose, counted}
 use Rattle.outside.specs.Disk.{DiskState}
 use Rattle.outside.specs.Sink.{SinkState, Gains, GainsFront}
@@ -60,3 +63,27 @@ pub output_of_device : (old new : SinkState) (f : DumpFault) → IsOutputFault o
 output_of_device old new fault.Disk is = absurd is
 output_of_device old new fault.Sink is = tt
 output_of_device old new (fault.NotATable place) is = absurd is
+
+-- ---- row by row
+
+take_more : (rows : Rows) (i : ℕ) (row : List Value) → slice_get rows i ≡ Some row → take (i + 1) rows ≡ take i rows ++ row ∷ []
+take_more rows i row at =
+    ap (λ (n : ℕ). take n rows) (add-one i) ∙ take-suc rows i row (slice_get_within rows i row at)
+    ∙ ap (λ (r : List Value). take i rows ++ r ∷ []) (get_or_from_slice_get rows i row row at)
+
+-- one row more
+pub rows_more : (columns : List Column) (rows : Rows) (i : ℕ) (row : List Value) → slice_get rows i ≡ Some row
+    → rows_text columns (take (i + 1) rows) ≡ rows_text columns (take i rows) ++ record_text (printed columns row)
+rows_more columns rows i row at =
+    ap (rows_text columns) (take_more rows i row at) ∙ rows_text_both columns (take i rows) (row ∷ [])
+    ∙ ap (λ (text : List ℕ). rows_text columns (take i rows) ++ text) (append-nil (record_text (printed columns row)))
+
+-- which fits
+pub fits_more : (columns : List Column) (rows : Rows) (i : ℕ) (row : List Value) → slice_get rows i ≡ Some row → All (Fits columns) (take i rows) → Fits columns row
+    → All (Fits columns) (take (i + 1) rows)
+fits_more columns rows i row at fit row_fits =
+    subst (All (Fits columns)) (sym (take_more rows i row at)) (All-push (Fits columns) (take i rows) row fit row_fits)
+
+pub on_ok : {T E : Type 0} (result : Result T E) (P : Type 0) → P → OnOk result P
+on_ok (Ok done) P p = p
+on_ok (Err stop) P p = tt

@@ -7,6 +7,6 @@ use Rattle.table_dump.proofs.text.append_rows.Given as goal
 abbrev pub invariant-loop-i : goal.invariant-loop-i
 invariant-loop-i l = record {
   between : IsBetween l.writer;
-  wrote : so_far l.writer ≡ l.text.items ++ rows_text l.batch.columns (take l.i l.batch.rows);
+  wrote : so_far l.writer ≡ l.fn.text.items ++ rows_text l.batch.columns (take l.i l.batch.rows);
   fit : All (Fits l.batch.columns) (take l.i l.batch.rows);
 }
