@@ -27,6 +27,10 @@ Rows = List (List Value)
 abbrev pub AnyRows : {T E : Type 0} → List Column → SinkState → SinkState → Result T E → Type 0
 AnyRows columns old new result = (rows : Rows) × All (Fits columns) rows × Leaves (rows_text columns rows) old new result
 
+-- some rows of the columns were put
+abbrev pub SomeRows : List Column → SinkState → SinkState → Type 0
+SomeRows columns old new = (rows : Rows) × All (Fits columns) rows × Gains (rows_text columns rows) old new
+
 pub rows_text_both : (columns : List Column) (one two : Rows) → rows_text columns (one ++ two) ≡ rows_text columns one ++ rows_text columns two
 rows_text_both columns one two = flat_map-append (λ row. record_text (printed columns row)) one two
 
@@ -42,9 +46,9 @@ rows_on columns old mid new one two result first second =
     subst (λ (text : List ℕ). Leaves text old new result) (sym (rows_text_both columns one two)) (leaves_both old mid new (rows_text columns one) (rows_text columns two) result first second)
 
 -- some rows, and then some more
-pub any_on : {T U E F : Type 0} (columns others : List Column) (old mid new : SinkState) (done : T) (result : Result U F) → AnyRows {E = E} columns old mid (Ok done) → others ≡ columns
+pub any_on : {T E : Type 0} (columns others : List Column) (old mid new : SinkState) (result : Result T E) → SomeRows columns old mid → others ≡ columns
     → AnyRows others mid new result → AnyRows columns old new result
-any_on columns others old mid new done result (one, fit, first) same more =
+any_on columns others old mid new result (one, fit, first) same more =
     let (two, fit_two, second) = subst (λ (cs : List Column). AnyRows cs mid new result) same more in
     (one ++ two, All-append (Fits columns) one two fit fit_two, rows_on columns old mid new one two result first second)
 
