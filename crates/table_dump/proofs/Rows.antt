@@ -39,6 +39,9 @@ pub any_none : {T E : Type 0} (columns : List Column) (old : SinkState) (result 
 any_none columns old (Ok done) = ([], All-nil (Fits columns), puts_none old)
 any_none columns old (Err stop) = ([], All-nil (Fits columns), puts_front [] old)
 
+pub some_none : (columns : List Column) (old : SinkState) → SomeRows columns old old
+some_none columns old = ([], All-nil (Fits columns), puts_none old)
+
 -- rows behind the rows that were put
 pub rows_on : {T E : Type 0} (columns : List Column) (old mid new : SinkState) (one two : Rows) (result : Result T E) → Gains (rows_text columns one) old mid
     → Leaves (rows_text columns two) mid new result → Leaves (rows_text columns (one ++ two)) old new result

@@ -8,8 +8,8 @@ use Rattle.table_dump.proofs.Rows.{SomeRows}
 use Rattle.table_dump.proofs.Dumped.{HasPut}
 use Rattle.table_dump.proofs.dumping.put_blocks.Given as goal
 
-abbrev pub invariant-loop : goal.invariant-loop
-invariant-loop g l = record {
+abbrev pub invariant-loop-next : goal.invariant-loop-next
+invariant-loop-next g l = record {
   columns : l.batch.columns ≡ l.schema;
   read : OnlyReads (g.K.Disk.state l.fn.disk) (g.K.Disk.state l.disk);
   within : l.at ≤ l.journal.gate;
@@ -20,5 +20,5 @@ invariant-loop g l = record {
       → HasPut l.schema text table.blocks l.at rows (g.S.Sink.state l.fn.out) (g.S.Sink.state l.out);
 }
 
-abbrev pub decreases-loop : goal.decreases-loop
-decreases-loop g l = l.journal.gate - l.at
+abbrev pub decreases-loop-next : goal.decreases-loop-next
+decreases-loop-next g l = l.journal.gate - l.at
