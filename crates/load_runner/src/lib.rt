@@ -14,16 +14,16 @@
 //! Not promised: that a load ever completes, that memory is found, or anything of two loads at one time.
 #![tactic(auto)]
 
-mod begin;
 mod fault;
 mod finish;
 mod laws;
+mod opening;
 mod report;
 mod running;
 mod sources;
 
-pub use begin::begin as open_table;
 pub use fault::{LoadFault, SourceFault, SourceWhat};
 pub use laws::{any_loads, found_once};
+pub use opening::open_table;
 pub use report::{EdgeCount, Report, ReportEdges};
 pub use running::load;

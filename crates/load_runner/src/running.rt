@@ -2,9 +2,9 @@
 ghost use Rattle.std.specs.Prelude.{◌≡◌, ◌≤◌, length, drop};
 ghost use Rattle.load_runner.specs.Loads.{Loads};
 
-use crate::begin::{begin, count_of, is_ended};
 use crate::fault::{LoadFault, of_sources, of_table, of_write};
 use crate::finish::finish;
+use crate::opening::{count_of, is_ended, open_table};
 use crate::report::{Report, ended_report, skip_report};
 use crate::sources::whole_rows;
 use commit_disk::{MAX_FLOW_BYTES, MAX_ROWS, holds_once, verdicts_agree};
@@ -41,7 +41,7 @@ pub fn load<D: Depot, K: Disk>(
     bag_laws();
     tree_laws();
     let root = flow.root_node();
-    let found = match begin(alloc, disk, text, &root.schema) {
+    let found = match open_table(alloc, disk, text, &root.schema) {
         Ok(found) => found,
         Err(stop) => return Err(of_table(stop)),
     };

@@ -10,12 +10,12 @@
 //! Not promised: that memory is found; which rows they are on a disk that isn't honest.
 #![tactic(auto)]
 
-mod dump;
+mod dumping;
 mod fault;
 mod record;
 mod text;
 
-pub use dump::dump;
+pub use dumping::dump;
 pub use fault::DumpFault;
 
 #[cfg(test)]

@@ -9,12 +9,12 @@ use row_codec::print_field;
 use tuple_schema::{Column, Fields, Memory};
 
 /// Makes the record that of the columns' names.
-pub(crate) fn name_columns(columns: &[Column], record: &mut ByteRecord) -> Result<(), Memory>
-    ensures { OnOk result (fields_of record.new ≡ map (λ c. c.name) columns.now) }
+pub(crate) fn name_columns(columns: &[Column], into: &mut ByteRecord) -> Result<(), Memory>
+    ensures { OnOk result (fields_of into.new ≡ map (λ c. c.name) columns.now) }
 {
-    record.clear();
+    into.clear();
     for column in columns {
-        record.push_field(column.name.as_str().as_bytes())?;
+        into.push_field(column.name.as_str().as_bytes())?;
     }
     Ok(())
 }
@@ -24,17 +24,17 @@ pub(crate) fn print_row<F: Fields>(
     row: &F,
     columns: &[Column],
     field: &mut Vec<u8>,
-    record: &mut ByteRecord,
+    into: &mut ByteRecord,
 ) -> Result<(), Memory>
     requires schema { IsSchema columns.now }
     requires fits { Fits columns.now (F.tuple row.now) }
-    ensures { OnOk result (fields_of record.new ≡ printed columns.now (F.tuple row.now)) }
+    ensures { OnOk result (fields_of into.new ≡ printed columns.now (F.tuple row.now)) }
 {
-    record.clear();
+    into.clear();
     for i in 0..columns.len() {
         field.clear();
         print_field(row.field(i), &columns[i], field)?;
-        record.push_field(field)?;
+        into.push_field(field)?;
     }
     Ok(())
 }

@@ -15,14 +15,14 @@ use tuple_schema::{Column, Memory};
 #[derive(Drop)]
 pub(crate) struct Printer {
     field: Vec<u8>,
-    record: ByteRecord,
+    fields: ByteRecord,
 }
 
 impl Printer {
     pub(crate) fn new(alloc: Global) -> Printer {
         Printer {
             field: Vec::new(alloc),
-            record: ByteRecord::new(alloc),
+            fields: ByteRecord::new(alloc),
         }
     }
 }
@@ -36,12 +36,12 @@ fn writer_behind(text: Vec<u8>) -> Writer<Vec<u8>>
 }
 
 // Writes the record. A text in memory fails for want of memory alone, and records are of one length.
-fn write(writer: &mut Writer<Vec<u8>>, record: &ByteRecord) -> Result<(), Memory>
+fn write(writer: &mut Writer<Vec<u8>>, fields: &ByteRecord) -> Result<(), Memory>
     requires between { IsBetween writer.old }
     ensures between { OnOk result (IsBetween writer.new) }
-    ensures wrote { OnOk result (so_far writer.new ≡ so_far writer.old ++ record_text (fields_of record.now)) }
+    ensures wrote { OnOk result (so_far writer.new ≡ so_far writer.old ++ record_text (fields_of fields.now)) }
 {
-    match writer.write_byte_record(record) {
+    match writer.write_byte_record(fields) {
         Ok(()) => Ok(()),
         Err(_) => Err(Memory),
     }
@@ -61,10 +61,10 @@ fn written(writer: Writer<Vec<u8>>) -> Result<Vec<u8>, Memory>
 pub(crate) fn names_of(alloc: Global, columns: &[Column]) -> Result<Vec<u8>, Memory>
     ensures { IfOk result (λ text. text.items ≡ names_text columns.now) }
 {
-    let mut record = ByteRecord::new(alloc);
-    name_columns(columns, &mut record)?;
+    let mut fields = ByteRecord::new(alloc);
+    name_columns(columns, &mut fields)?;
     let mut writer = writer_behind(Vec::new(alloc));
-    write(&mut writer, &record)?;
+    write(&mut writer, &fields)?;
     written(writer)
 }
 
@@ -80,8 +80,8 @@ pub(crate) fn append_rows(
     let columns = batch.schema().columns();
     let mut writer = writer_behind(text);
     for i in 0..batch.len() {
-        print_row(&batch.row(i), columns, &mut printer.field, &mut printer.record)?;
-        write(&mut writer, &printer.record)?;
+        print_row(&batch.row(i), columns, &mut printer.field, &mut printer.fields)?;
+        write(&mut writer, &printer.fields)?;
     }
     written(writer)
 }

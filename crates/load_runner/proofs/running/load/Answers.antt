@@ -44,7 +44,7 @@ returns-then-is_ended g c = record {
       let text = c.args.text.now in
       let columns = root_columns c.args.flow.now.nodes in
       let old = (g.K.Disk.state c.args.disk.now).file in
-      let mid = (g.K.Disk.state c.begin.new.disk).file in
+      let mid = (g.K.Disk.state c.open_table.new.disk).file in
       let start = begun c.in-Ok.found mid text columns (rw (ap columns_of_last c.root_node-root.ensures.last) at (c.in-Ok.ensures.found honest)) in
       let ended : is_ended c.in-Ok.found ≡ true = sym c.if-is_ended.ensures in
       let here : HoldsRows mid text columns start.committed true = subst (λ (b : Bool). HoldsRows mid text columns start.committed b) ended start.holds in
@@ -64,7 +64,7 @@ returns-in_err-writer g c =
 
 pub finish-requires-clause-start : goal.finish-requires-clause-start
 finish-requires-clause-start g c = λ honest.
-    let start = begun c.in-Ok.found _ c.args.text.now _ (c.in-Ok.ensures.found (sym c.begin.ensures.elapses.honest ∙ honest)) in
+    let start = begun c.in-Ok.found _ c.args.text.now _ (c.in-Ok.ensures.found (sym c.open_table.ensures.elapses.honest ∙ honest)) in
     (start.olds, start.at (sym c.if-is_ended.ensures))
 
 pub finish-requires-clause-fit : goal.finish-requires-clause-fit
@@ -75,18 +75,18 @@ finish-requires-clause-fit g c =
 pub returns-in-Err-whole_rows : goal.returns-in-Err-whole_rows
 returns-in-Err-whole_rows g c =
     let old = g.K.Disk.state c.args.disk.now in
-    let mid = g.K.Disk.state c.begin.new.disk in
+    let mid = g.K.Disk.state c.open_table.new.disk in
     let depot = g.D.Depot.state c.args.depot.now in
     let still = g.D.Depot.state c.whole_rows.new.depot in
     let job : Job = record { flow = c.args.flow.now; text = c.args.text.now; batch = c.args.batch } in
-    let began = began_of job c.in-Ok.found old mid c.root_node-root.result.now c.root_node-root.ensures.last c.begin.ensures.elapses c.begin.ensures.spares c.in-Ok.ensures.settled c.in-Ok.ensures.found c.if-is_ended.ensures in
+    let began = began_of job c.in-Ok.found old mid c.root_node-root.result.now c.root_node-root.ensures.last c.open_table.ensures.elapses c.open_table.ensures.spares c.in-Ok.ensures.settled c.in-Ok.ensures.found c.if-is_ended.ensures in
     let s = c.in-Err-whole_rows.stop in
     record {
       promise = rw c.of_sources.ensures
           (loads c.verdicts_agree.ensures c.holds_once.ensures c.blocks_laws.ensures c.cut_laws.ensures.is_cut job depot still c.in-Ok.found old mid mid
           (only_read job depot.files c.in-Ok.found old mid began) c.root_node-root.ensures.flow c.tree_laws.ensures.root c.root_node-root.ensures.fixed c.still_laws.ensures.first_rows c.still_laws.ensures.ended c.bag_laws.ensures.appended
-          c.requires.some c.whole_rows.ensures.consults c.begin.ensures.elapses c.whole_rows.ensures.served (Err (of_sources s))
-          (λ is. sources_leave job depot.files _ _ _ old mid s c.begin.ensures.spares)
+          c.requires.some c.whole_rows.ensures.consults c.open_table.ensures.elapses c.whole_rows.ensures.served (Err (of_sources s))
+          (λ is. sources_leave job depot.files _ _ _ old mid s c.open_table.ensures.spares)
           (sources_rest job depot still old mid s (λ f at. c.in-Err-whole_rows.ensures.refused f (ap Err at)) c.in-Err-whole_rows.ensures.cause)
           (λ files told whole means is safe. tt));
     }
@@ -94,18 +94,18 @@ returns-in-Err-whole_rows g c =
 pub returns-in_err-report : goal.returns-in_err-report
 returns-in_err-report g c =
     let old = g.K.Disk.state c.args.disk.now in
-    let mid = g.K.Disk.state c.begin.new.disk in
+    let mid = g.K.Disk.state c.open_table.new.disk in
     let depot = g.D.Depot.state c.args.depot.now in
     let still = g.D.Depot.state c.whole_rows.new.depot in
     let job : Job = record { flow = c.args.flow.now; text = c.args.text.now; batch = c.args.batch } in
-    let began = began_of job c.in-Ok.found old mid c.root_node-root.result.now c.root_node-root.ensures.last c.begin.ensures.elapses c.begin.ensures.spares c.in-Ok.ensures.settled c.in-Ok.ensures.found c.if-is_ended.ensures in
+    let began = began_of job c.in-Ok.found old mid c.root_node-root.result.now c.root_node-root.ensures.last c.open_table.ensures.elapses c.open_table.ensures.spares c.in-Ok.ensures.settled c.in-Ok.ensures.found c.if-is_ended.ensures in
     let p = err_from_is_err_and c.from_residual-in_err-report.result c.from_residual-in_err-report.ensures.1 in
     record {
       promise = rw (p.1, p.2)
           (loads c.verdicts_agree.ensures c.holds_once.ensures c.blocks_laws.ensures c.cut_laws.ensures.is_cut job depot still c.in-Ok.found old mid mid
           (only_read job depot.files c.in-Ok.found old mid began) c.root_node-root.ensures.flow c.tree_laws.ensures.root c.root_node-root.ensures.fixed c.still_laws.ensures.first_rows c.still_laws.ensures.ended c.bag_laws.ensures.appended
-          c.requires.some c.whole_rows.ensures.consults c.begin.ensures.elapses c.whole_rows.ensures.served (Err Memory)
-          (λ is. c.begin.ensures.spares) tt (λ files told whole means is safe. tt));
+          c.requires.some c.whole_rows.ensures.consults c.open_table.ensures.elapses c.whole_rows.ensures.served (Err Memory)
+          (λ is. c.open_table.ensures.spares) tt (λ files told whole means is safe. tt));
     }
 
 pub returns-in-Ok-finish : goal.returns-in-Ok-finish
@@ -115,14 +115,14 @@ returns-in-Ok-finish g c =
     let law = c.blocks_laws.ensures in
     let cuts = c.cut_laws.ensures.is_cut in
     let old = g.K.Disk.state c.args.disk.now in
-    let mid = g.K.Disk.state c.begin.new.disk in
+    let mid = g.K.Disk.state c.open_table.new.disk in
     let new = g.K.Disk.state c.finish.new.disk in
     let depot = g.D.Depot.state c.args.depot.now in
     let still = g.D.Depot.state c.whole_rows.new.depot in
     let job : Job = record { flow = c.args.flow.now; text = c.args.text.now; batch = c.args.batch } in
     let whole = c.in-Ok-whole_rows.rows in
     let made = c.in-Ok-whole_rows.ensures.made in
-    let began = began_of job c.in-Ok.found old mid c.root_node-root.result.now c.root_node-root.ensures.last c.begin.ensures.elapses c.begin.ensures.spares c.in-Ok.ensures.settled c.in-Ok.ensures.found c.if-is_ended.ensures in
+    let began = began_of job c.in-Ok.found old mid c.root_node-root.result.now c.root_node-root.ensures.last c.open_table.ensures.elapses c.open_table.ensures.spares c.in-Ok.ensures.settled c.in-Ok.ensures.found c.if-is_ended.ensures in
     let missing : c.behind-missing.result.now ≡ drop (count_of c.in-Ok.found) whole =
     c.behind-missing.ensures ∙ ap (drop c.count_of-before.result) c.rows-2.ensures ∙ ap (λ n. drop n whole) c.count_of-before.ensures in
     let is_missing = missing_is job c.in-Ok.found whole c.root_node-root.result.now c.root_node-root.ensures.last c.behind-missing.result.now missing in
@@ -134,7 +134,7 @@ returns-in-Ok-finish g c =
     c.in_ok-report.ensures ∙ ap (λ n. skip_report root.id n c.len.result) c.count_of-before.ensures ∙ ap (skip_report root.id (count_of c.in-Ok.found)) c.len.ensures in
     record {
       promise = loads agree once law cuts job depot still c.in-Ok.found old mid new ran c.root_node-root.ensures.flow c.tree_laws.ensures.root c.root_node-root.ensures.fixed c.still_laws.ensures.first_rows c.still_laws.ensures.ended c.bag_laws.ensures.appended
-          c.requires.some c.whole_rows.ensures.consults (time_on old mid new c.begin.ensures.elapses c.finish.ensures.elapses) c.whole_rows.ensures.served (Ok c.in_ok-report.report)
+          c.requires.some c.whole_rows.ensures.consults (time_on old mid new c.open_table.ensures.elapses c.finish.ensures.elapses) c.whole_rows.ensures.served (Ok c.in_ok-report.report)
           (λ is. complete agree once law cuts job depot.files c.in-Ok.found old mid new (ran is) (λ had all makes. resumed c.args.flow.now c.root_node-root.ensures.flow c.tree_laws.ensures.root depot.files had all makes) whole made c.requires.some c.in_ok-report.report root c.root_node-root.ensures.last reported ends)
           tt
           (λ files told meaning means is safe.
@@ -149,14 +149,14 @@ returns g c =
     let law = c.blocks_laws.ensures in
     let cuts = c.cut_laws.ensures.is_cut in
     let old = g.K.Disk.state c.args.disk.now in
-    let mid = g.K.Disk.state c.begin.new.disk in
+    let mid = g.K.Disk.state c.open_table.new.disk in
     let new = g.K.Disk.state c.finish.new.disk in
     let depot = g.D.Depot.state c.args.depot.now in
     let still = g.D.Depot.state c.whole_rows.new.depot in
     let job : Job = record { flow = c.args.flow.now; text = c.args.text.now; batch = c.args.batch } in
     let whole = c.in-Ok-whole_rows.rows in
     let made = c.in-Ok-whole_rows.ensures.made in
-    let began = began_of job c.in-Ok.found old mid c.root_node-root.result.now c.root_node-root.ensures.last c.begin.ensures.elapses c.begin.ensures.spares c.in-Ok.ensures.settled c.in-Ok.ensures.found c.if-is_ended.ensures in
+    let began = began_of job c.in-Ok.found old mid c.root_node-root.result.now c.root_node-root.ensures.last c.open_table.ensures.elapses c.open_table.ensures.spares c.in-Ok.ensures.settled c.in-Ok.ensures.found c.if-is_ended.ensures in
     let missing : c.behind-missing.result.now ≡ drop (count_of c.in-Ok.found) whole =
     c.behind-missing.ensures ∙ ap (drop c.count_of-before.result) c.rows-2.ensures ∙ ap (λ n. drop n whole) c.count_of-before.ensures in
     let is_missing = missing_is job c.in-Ok.found whole c.root_node-root.result.now c.root_node-root.ensures.last c.behind-missing.result.now missing in
@@ -167,8 +167,8 @@ returns g c =
     record {
       promise = rw c.of_write.ensures
           (loads agree once law cuts job depot still c.in-Ok.found old mid new ran c.root_node-root.ensures.flow c.tree_laws.ensures.root c.root_node-root.ensures.fixed c.still_laws.ensures.first_rows c.still_laws.ensures.ended c.bag_laws.ensures.appended
-          c.requires.some c.whole_rows.ensures.consults (time_on old mid new c.begin.ensures.elapses c.finish.ensures.elapses) c.whole_rows.ensures.served (Err (of_write s))
+          c.requires.some c.whole_rows.ensures.consults (time_on old mid new c.open_table.ensures.elapses c.finish.ensures.elapses) c.whole_rows.ensures.served (Err (of_write s))
           (λ is. write_leaves agree once law cuts job depot.files c.in-Ok.found old mid new (ran is) (λ had all makes. resumed c.args.flow.now c.root_node-root.ensures.flow c.tree_laws.ensures.root depot.files had all makes) whole made s finishes)
-          (write_rests job depot still old mid new (missing_of job c.in-Ok.found whole) s c.begin.ensures.elapses.faults finishes)
+          (write_rests job depot still old mid new (missing_of job c.in-Ok.found whole) s c.open_table.ensures.elapses.faults finishes)
           (λ files told meaning means is safe. tt));
     }

@@ -1,4 +1,4 @@
-// The beginning of a load, which reads the table and changes nothing.
+// Opening a table, which reads it and changes nothing.
 ghost use Rattle.std.specs.Prelude.{◌≡◌, ◌≤◌, ◌<◌, ℕ, IsTrue, Err, IfOk, OnOk};
 ghost use Rattle.outside.specs.Words.{Rose, Elapses, Syncs, Spares};
 ghost use Rattle.tuple_schema.specs.Stops.{IfFault};
@@ -14,8 +14,8 @@ use std::alloc::Global;
 use table_read::verify;
 use tuple_schema::{Schema, Stop};
 
-/// Attaches the table of this flow text, and reads all its rows.
-pub fn begin<K: Disk>(
+/// Attaches the table of this flow text, and reads all its rows, each of which has to be one of the columns.
+pub fn open_table<K: Disk>(
     alloc: Global,
     disk: &mut K,
     text: &[u8],

@@ -10,7 +10,7 @@ use Rattle.commit_disk.specs.declared.attaching.Attached.TheVariants as Attached
 use Rattle.load_runner.specs.Found.{HasWrongRow}
 use Rattle.load_runner.specs.Starts.{Starts}
 use Rattle.load_runner.proofs.Readings.{all_read, wrong_read, same_stop}
-use Rattle.load_runner.proofs.begin.begin.Goals as goal
+use Rattle.load_runner.proofs.opening.open_table.Goals as goal
 
 pub returns-in_ok-verify-in-Made-clause-found : goal.returns-in_ok-verify-in-Made-clause-found
 returns-in_ok-verify-in-Made-clause-found g c = λ honest.

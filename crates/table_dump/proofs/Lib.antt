@@ -1,0 +1,5 @@
+pub mod Dumped
+pub mod Puts
+pub mod Rows
+pub mod Printing
+pub mod Walks
