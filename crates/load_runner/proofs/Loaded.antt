@@ -31,7 +31,7 @@ use Rattle.load_runner.specs.declared.fault.SourceWhat.{SourceWhat}
 use Rattle.load_runner.specs.declared.fault.SourceWhat.TheVariants as what
 use Rattle.load_runner.specs.Adding.{Addition, Finishes, EndsTable, FillsTable, FailsBetween}
 use Rattle.load_runner.specs.Asked.{asked_bytes}
-use Rattle.load_runner.specs.Stops.{of_table, of_source, of_sources, of_write}
+use Rattle.load_runner.specs.Stops.{of_table, of_source_fault, of_sources, of_write}
 use Rattle.load_runner.specs.declared.report.Report.{Report}
 use Rattle.load_runner.specs.Found.{State, unmade, rows, wrong, other, IsFound}
 use Rattle.load_runner.specs.Jobs.{Job, Answer, columns_of, run_blocks, IsMade, missing_blocks}
@@ -323,7 +323,7 @@ pub sources_leave : (job : Job) (told : Option Files) (had : List (List Value)) 
 sources_leave job told had stored gate disk now Memory spares = spares
 sources_leave job told had stored gate disk now (Fault f) spares = by_what f.what
   where
-    by_what : (w : SourceWhat) → Leaves job told had stored gate disk now (Err (Fault (of_source f w)))
+    by_what : (w : SourceWhat) → Leaves job told had stored gate disk now (Err (Fault (of_source_fault f w)))
     by_what (what.Csv csv.Depot) = spares
     by_what (what.Csv csv.Missing) = spares
     by_what (what.Csv (csv.TooLarge size)) = spares
@@ -339,7 +339,7 @@ pub sources_rest : (job : Job) (depot still : DepotState) (disk now : DiskState)
 sources_rest job depot still disk now Memory first cause = tt
 sources_rest job depot still disk now (Fault f) first cause = by_what f.what refl
   where
-    by_what : (w : SourceWhat) → f.what ≡ w → RestsOn job depot still disk now (Err (Fault (of_source f w)))
+    by_what : (w : SourceWhat) → f.what ≡ w → RestsOn job depot still disk now (Err (Fault (of_source_fault f w)))
     by_what (what.Csv csv.Depot) is = cause is
     by_what (what.Csv csv.Missing) is = first f refl (λ depot. cc)
     by_what (what.Csv (csv.TooLarge size)) is = first f refl (λ depot. cc)

@@ -20,18 +20,18 @@ of_table (Fault (table.NotATable place)) = Fault (load.NotATable place)
 of_table (Fault table.WorkflowDiffers) = Fault load.WorkflowDiffers
 
 -- of a source, by what is wrong: where the depot failed, the source isn't blamed
-abbrev pub of_source : SourceFault → SourceWhat → LoadFault
-of_source f (what.Csv csv.Depot) = load.Depot
-of_source f (what.Csv csv.Missing) = load.Source f
-of_source f (what.Csv (csv.TooLarge size)) = load.Source f
-of_source f (what.Csv (csv.BadHeader at)) = load.Source f
-of_source f (what.Csv (csv.BadCsv row)) = load.Source f
-of_source f (what.Csv (csv.BadRow row column cause)) = load.Source f
+abbrev pub of_source_fault : SourceFault → SourceWhat → LoadFault
+of_source_fault f (what.Csv csv.Depot) = load.Depot
+of_source_fault f (what.Csv csv.Missing) = load.Source f
+of_source_fault f (what.Csv (csv.TooLarge size)) = load.Source f
+of_source_fault f (what.Csv (csv.BadHeader at)) = load.Source f
+of_source_fault f (what.Csv (csv.BadCsv row)) = load.Source f
+of_source_fault f (what.Csv (csv.BadRow row column cause)) = load.Source f
 
 -- of reading the sources
 abbrev pub of_sources : Stop SourceFault → Stop LoadFault
 of_sources Memory = Memory
-of_sources (Fault f) = Fault (of_source f f.what)
+of_sources (Fault f) = Fault (of_source_fault f f.what)
 
 -- of writing the table
 abbrev pub of_write : Stop WriteFault → Stop LoadFault

@@ -1,6 +1,6 @@
 // Why a load stopped.
 ghost use Rattle.std.specs.Prelude.{◌≡◌};
-ghost use Rattle.load_runner.specs.Stops.{of_table, of_source, of_sources, of_write};
+ghost use Rattle.load_runner.specs.Stops.{of_table, of_source_fault, of_sources, of_write};
 
 use commit_disk::TableFault;
 use extractors::CsvFault;
@@ -63,13 +63,13 @@ pub fn of_sources(stop: Stop<SourceFault>) -> Stop<LoadFault>
 {
     match stop {
         Stop::Memory => Stop::Memory,
-        Stop::Fault(fault) => Stop::Fault(of_source(fault)),
+        Stop::Fault(fault) => Stop::Fault(of_source_fault(fault)),
     }
 }
 
 // The fault of a load that a source's fault is: where the depot failed, the source isn't blamed.
-fn of_source(fault: SourceFault) -> LoadFault
-    ensures { result ≡ of_source fault fault.what }
+fn of_source_fault(fault: SourceFault) -> LoadFault
+    ensures { result ≡ of_source_fault fault fault.what }
 {
     match fault.what {
         SourceWhat::Csv(CsvFault::Depot) => LoadFault::Depot,
