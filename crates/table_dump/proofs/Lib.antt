@@ -1,3 +1,4 @@
+pub mod DumpExamples
 pub mod Dumped
 pub mod Puts
 pub mod Rows

@@ -34,10 +34,10 @@ fronts_first old new one two (n, few, is) =
 -- and so is one with a front of the other
 pub fronts_both : (old mid new : SinkState) (one two : List ℕ) → Gains one old mid → GainsFront two mid new → GainsFront (one ++ two) old new
 fronts_both old mid new one two first (n, few, is) = (
-    length one + n,
-    omega (arith, few, length-append one two),
-    puts_both old mid new one (take n two) first is ∙ ap (gained old.written) (sym (take-append-add one two n)),
-  )
+  length one + n,
+  omega (arith, few, length-append one two),
+  puts_both old mid new one (take n two) first is ∙ ap (gained old.written) (sym (take-append-add one two n)),
+)
 
 -- what is left behind a text
 pub leaves_both : {T E : Type 0} (old mid new : SinkState) (one two : List ℕ) (result : Result T E) → Gains one old mid → Leaves two mid new result → Leaves (one ++ two) old new result

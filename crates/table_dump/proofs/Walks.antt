@@ -125,9 +125,9 @@ stands_at_first columns journal file text told rows e =
     let first = journal.first in
     let ended = has_end told.blocks in
     let same : map content_of told.blocks ≡ row_blocks told.blocks ++ ends ended =
-        ap (map content_of) (as_table told.blocks told.holds.holds.placed) ∙ contents_of_table (row_blocks told.blocks) ended in
+    ap (map content_of) (as_table told.blocks told.holds.holds.placed) ∙ contents_of_table (row_blocks told.blocks) ended in
     let here : table_rows columns first (row_blocks told.blocks) ≡ Ok rows =
-        ap (λ (n : ℕ). table_rows columns n (row_blocks told.blocks)) told.first ∙ e in
+    ap (λ (n : ℕ). table_rows columns n (row_blocks told.blocks)) told.first ∙ e in
     record {
       before = [];
       rest = told.blocks;

@@ -50,7 +50,8 @@ pub fn dump<K: Disk, S: Sink>(
         → IsTrue (K.state disk.old).honest → (text : List ℕ)
         → (table : TellsOf journal.now (K.state disk.old).file text) → (rows : List (List Value))
         → table_rows schema.now (16 + length text) (row_blocks table.blocks) ≡ Ok rows → ⊥ }
-    ensures causes { IfFault result (IsCaused (K.state disk.old) (K.state disk.new) (S.state out.old) (S.state out.new)) }
+    ensures causes { IfFault result
+        (IsCaused (K.state disk.old) (K.state disk.new) (S.state out.old) (S.state out.new)) }
     ensures only_read { OnlyReads (K.state disk.old) (K.state disk.new) }
     ensures output { (S.state out.old).faults ≤ (S.state out.new).faults }
 {
@@ -114,7 +115,8 @@ fn put_blocks<K: Disk, S: Sink>(
         → Leaves (rows_text schema.now rows) (S.state out.old) (S.state out.new) result × IfFault result IsOfDevice }
     ensures any_disk { (rows : List (List Value)) × All (Fits schema.now) rows
         × Leaves (rows_text schema.now rows) (S.state out.old) (S.state out.new) result }
-    ensures causes { IfFault result (IsCaused (K.state disk.old) (K.state disk.new) (S.state out.old) (S.state out.new)) }
+    ensures causes { IfFault result
+        (IsCaused (K.state disk.old) (K.state disk.new) (S.state out.old) (S.state out.new)) }
     ensures only_read { OnlyReads (K.state disk.old) (K.state disk.new) }
     ensures output { (S.state out.old).faults ≤ (S.state out.new).faults }
 {

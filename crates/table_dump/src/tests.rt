@@ -8,7 +8,8 @@ use std::alloc::Global;
 use std::test::Fail;
 use tuple_schema::{Column, ColumnKind, Schema, Stop, Text};
 
-// The rows Null, 1.50, `a "b", c` and 7, -0.05, an empty text in a block, and -1, Null, a text of two lines in the next.
+// In one block the rows Null, 1.50, `a "b", c` and 7, -0.05, an empty text, and in the next -1, Null, a text of two
+// lines; and the end.
 const TWO_BLOCKS: [u8; 107] = *b"\x01WHTABLE\0\0\0\x01\0\0\0\x01x\
     \x01\0\0\0\0\x02\0\0\0\x2a\
     \0\x01\0\0\0\0\0\0\0\x96\x01\0\x08a \"b\", c\

@@ -35,7 +35,8 @@ fn writer_behind(text: Vec<u8>) -> Writer<Vec<u8>>
     WriterBuilder::new().from_writer(text)
 }
 
-// Writes the record. A text in memory fails for want of memory alone, and records are of one length.
+// Writes the record. All that a writer is given here are records of one length, so that it fails for want of memory
+// alone; no clause of `csv` says so of the first.
 fn write(writer: &mut Writer<Vec<u8>>, fields: &ByteRecord) -> Result<(), Memory>
     requires between { IsBetween writer.old }
     ensures between { OnOk result (IsBetween writer.new) }
@@ -80,7 +81,12 @@ pub(crate) fn append_rows(
     let columns = batch.schema().columns();
     let mut writer = writer_behind(text);
     for i in 0..batch.len() {
-        print_row(&batch.row(i), columns, &mut printer.field, &mut printer.fields)?;
+        print_row(
+            &batch.row(i),
+            columns,
+            &mut printer.field,
+            &mut printer.fields,
+        )?;
         write(&mut writer, &printer.fields)?;
     }
     written(writer)

@@ -11,10 +11,9 @@ returns-clause-rows g c = λ honest text table rows e.
 pub returns-clause-any_disk : goal.returns-clause-any_disk
 returns-clause-any_disk g c =
     let columns = c.args.schema.now in
-    let some = c.put_blocks.ensures.any_disk in
-    (
+    let some = c.put_blocks.ensures.any_disk in (
       some.0,
       some.1,
       leaves_both (g.S.Sink.state c.args.out.now) (g.S.Sink.state c.put_names.new.out) (g.S.Sink.state c.put_blocks.new.out) (names_text columns) (rows_text columns some.0)
-      c.put_blocks.result c.in_ok-put_names.ensures.text some.2,
+          c.put_blocks.result c.in_ok-put_names.ensures.text some.2,
     )

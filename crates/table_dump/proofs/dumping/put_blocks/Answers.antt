@@ -50,16 +50,16 @@ returns-in_err-text-in-Ok-Some-clause-rows g c = λ honest text table rows e.
     let lt : at < journal.gate = omega (arith, onward.0, onward.1) in
     let has = c.loop-next.invariant.told honest text table rows e in
     let stands = stands_on columns (g.K.Disk.state c.args.disk.now).file text table.blocks at journal.gate rows has.done table.holds next taken lt has.stands
-        (λ block here. subst (λ (cs : List Column). ReadsBlock (Ok (Some next)) taken (next_gate at (content_of block)) (block_rows cs at (content_of block))) cleared
-        (subst (λ (o : Option ℕ). ReadsBlock (Ok o) taken (next_gate at (content_of block)) (block_rows c.clear.new.self.columns at (content_of block))) c.in-Ok-Some.field-0-is
-        (c.in-Ok-Some.ensures.rows still block (subst (λ (file : List ℕ). IsBlockAt at journal.gate file block) (sym same) here)))) in
+    (λ block here. subst (λ (cs : List Column). ReadsBlock (Ok (Some next)) taken (next_gate at (content_of block)) (block_rows cs at (content_of block))) cleared
+    (subst (λ (o : Option ℕ). ReadsBlock (Ok o) taken (next_gate at (content_of block)) (block_rows c.clear.new.self.columns at (content_of block))) c.in-Ok-Some.field-0-is
+    (c.in-Ok-Some.ensures.rows still block (subst (λ (file : List ℕ). IsBlockAt at journal.gate file block) (sym same) here)))) in
     let old = g.S.Sink.state c.args.out.now in
     let mid = g.S.Sink.state c.loop-next.out in
     let new = g.S.Sink.state c.put_rows.new.out in
     let p = err_from_is_err_and c.from_residual-in_err-text-in-Ok-Some.result c.from_residual-in_err-text-in-Ok-Some.ensures.1 in
     rw (p.1, p.2) (
       fails_with columns text table.blocks at next rows taken old mid new has stands
-      (subst (λ (cs : List Column). GainsFront (rows_text cs taken) mid new) filled c.in_err-text-in-Ok-Some.ensures.rows),
+          (subst (λ (cs : List Column). GainsFront (rows_text cs taken) mid new) filled c.in_err-text-in-Ok-Some.ensures.rows),
       stop_of_device mid new c.in_err-text-in-Ok-Some.field-0.0 c.in_err-text-in-Ok-Some.ensures.cause,
     )
 
@@ -104,7 +104,7 @@ loop-next-preserved g c =
             stands = stands_on columns (g.K.Disk.state c.args.disk.now).file text table.blocks at journal.gate rows has.done table.holds next taken lt has.stands
                 (λ block here. subst (λ (cs : List Column). ReadsBlock (Ok (Some next)) taken (next_gate at (content_of block)) (block_rows cs at (content_of block))) cleared
                 (subst (λ (o : Option ℕ). ReadsBlock (Ok o) taken (next_gate at (content_of block)) (block_rows c.clear.new.self.columns at (content_of block))) c.in-Ok-Some.field-0-is
-        (c.in-Ok-Some.ensures.rows still block (subst (λ (file : List ℕ). IsBlockAt at journal.gate file block) (sym same) here))));
+                (c.in-Ok-Some.ensures.rows still block (subst (λ (file : List ℕ). IsBlockAt at journal.gate file block) (sym same) here))));
             gains = rows_on {E = Unit {0}} columns old mid new has.done taken (Ok (tt {0})) has.gains
                 (subst (λ (cs : List Column). Gains (rows_text cs taken) mid new) filled c.in_ok-text-in-Ok-Some.ensures.rows);
           };
@@ -133,13 +133,12 @@ returns-in-Err-clause-rows g c = λ honest text table rows e.
     let taken = c.next_block.new.into.rows in
     let cleared : c.clear.new.self.columns ≡ columns = c.clear.ensures.columns ∙ c.loop-next.invariant.columns in
     let has = c.loop-next.invariant.told honest text table rows e in
-    let lt : at < journal.gate = below at journal.gate c.loop-next.invariant.within (λ last. let never = c.in-Err.ensures.none.1 last in absurd cc) in
-    (
+    let lt : at < journal.gate = below at journal.gate c.loop-next.invariant.within (λ last. let never = c.in-Err.ensures.none.1 last in absurd cc) in (
       stops_with (Unit {0}) columns text table.blocks at rows (g.S.Sink.state c.args.out.now) (g.S.Sink.state c.loop-next.out) c.of_reading.result has,
       stops_outside columns (g.K.Disk.state c.args.disk.now).file text table.blocks at journal.gate rows has.done table.holds theirs c.of_reading.result taken lt has.stands
-      (λ block here. subst (λ (cs : List Column). ReadsBlock (Err theirs) taken (next_gate at (content_of block)) (block_rows cs at (content_of block))) cleared
-      (c.in-Err.ensures.rows still block (subst (λ (file : List ℕ). IsBlockAt at journal.gate file block) (sym same) here)))
-      c.of_reading.ensures,
+          (λ block here. subst (λ (cs : List Column). ReadsBlock (Err theirs) taken (next_gate at (content_of block)) (block_rows cs at (content_of block))) cleared
+          (c.in-Err.ensures.rows still block (subst (λ (file : List ℕ). IsBlockAt at journal.gate file block) (sym same) here)))
+          c.of_reading.ensures,
     )
 
 pub returns-in-Err-clause-any_disk : goal.returns-in-Err-clause-any_disk

@@ -22,7 +22,7 @@ loop-i-preserved g c =
     let text = field_text column.kind (lent c.field.result) in
     let at = slice_get_read columns (length columns) c.loop-i.i column refl c.loop-i-test.true c.index-columns-i.is in
     let prints : c.deref.result.now ≡ text =
-        c.deref.ensures.value ∙ c.in_ok-print_field.ensures.ok ∙ ap (λ (l : List ℕ). l ++ text) c.clear-in-loop-i.ensures.items in
+    c.deref.ensures.value ∙ c.in_ok-print_field.ensures.ok ∙ ap (λ (l : List ℕ). l ++ text) c.clear-in-loop-i.ensures.items in
     record {
       fields = c.in_ok-push_field.ensures.fields
           ∙ (λ j. c.loop-i.invariant.fields j ++ (c.loop-i.invariant.partial j ++ prints j) ∷ [])
