@@ -198,7 +198,7 @@ def sources():
 def words():
     usage = (b"whload: usage: whload load DIR [--batch N], explain DIR, check DIR, dump DIR, "
              b"pack DIR SOURCE, drill N\n")
-    for words in ([], ["load"], ["load", ".", "more"], ["Load", "."], ["dump", "."], ["--help"],
+    for words in ([], ["load"], ["load", ".", "more"], ["Load", "."], ["--help"],
                   ["load", ".", "--batch"], ["load", ".", "--batch", "0"], ["load", ".", "--batch", "4097"],
                   ["load", ".", "--batch", "007"], ["load", ".", "--batch", "+7"], ["load", ".", "--batch", ""],
                   ["load", ".", "--size", "7"]):
