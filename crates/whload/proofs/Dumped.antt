@@ -1,5 +1,5 @@
 -- The promise of a dump, for each way in which it ends.
-use Rattle.std.proofs.Common.{◌≡◌, ◌⊎◌, ◌∙◌, ◌≤◌, inl, inr, ℕ, List, [], ◌++◌, length, Bool, All, IsTrue, Option, Some, None, Result, Ok, Err, refl, sym, ap, subst, append-nil, arith}
+use Rattle.std.proofs.Common.{◌≡◌, ◌⊎◌, ◌∙◌, ◌≤◌, ◌+◌, inl, inr, ℕ, List, [], ◌++◌, length, Bool, All, IsTrue, Option, Some, None, Result, Ok, Err, refl, sym, ap, subst, append-nil, arith}
 use Rattle.std.proofs.lemmas.List.Elements.{All-nil}
 use Rattle.outside.specs.Words.{Rose, DiskState, Elapses, Spares, OnlyReads, DepotState, SinkState, gained, Gains, GainsFront}
 use Rattle.outside.specs.Moments.{rose_later, time_on}
@@ -11,7 +11,12 @@ use Rattle.tuple_schema.specs.Schemas.{Fits}
 use Rattle.tuple_schema.specs.Stops.{IfFault}
 use Rattle.commit_disk.specs.declared.attaching.TableFault.{TableFault}
 use Rattle.commit_disk.specs.declared.attaching.TableFault.TheVariants as table
-use Rattle.commit_disk.specs.Table.{IsNotMade}
+use Rattle.commit_disk.specs.declared.attaching.Attached.TheVariants.{Made}
+use Rattle.commit_disk.specs.Table.{IsNotMade, row_blocks}
+use Rattle.commit_disk.specs.Attach.{TellsOf}
+use Rattle.commit_disk.specs.Journal.{JournalState}
+use Rattle.commit_disk.specs.RowTables.{told_rows}
+use Rattle.table_read.specs.Rows.{table_rows}
 use Rattle.table_write.specs.Rows.{HasRows}
 use Rattle.table_dump.specs.declared.fault.DumpFault.{DumpFault}
 use Rattle.table_dump.specs.declared.fault.DumpFault.TheVariants as dump
@@ -19,12 +24,19 @@ use Rattle.table_dump.specs.Texts.{dump_text, Leaves}
 use Rattle.table_dump.specs.Stops.{IsCaused}
 use Rattle.load_runner.specs.Found.{State, unmade, rows, wrong, other, IsFound, FoundOnce}
 use Rattle.load_runner.specs.Sources.{root_columns}
+use Rattle.load_runner.specs.Starts.{Starts}
 use Rattle.whload.specs.declared.reason.Reason.{Reason}
 use Rattle.whload.specs.declared.reason.Reason.TheVariants as why
 use Rattle.whload.specs.Commands.{FlowText}
 use Rattle.whload.specs.Devices.{devices}
 use Rattle.whload.specs.Dumps.{FailsOutside, Refuses, Gained, Shows, DoesBy, RestsOn, Dumps}
 use Rattle.whload.specs.Stops.{reason_of_table, reason_of_dump}
+
+-- what an image is found to be, of the same text and columns
+pub found_as : (image text : List ℕ) (columns : List Column) (state : State) (text' : List ℕ) (columns' : List Column) → text ≡ text' → columns ≡ columns'
+    → IsFound image text columns state → IsFound image text' columns' state
+found_as image text columns state text' columns' same_text same_columns found =
+    subst (λ (t : List ℕ). IsFound image t columns' state) same_text (subst (λ (cs : List Column). IsFound image text cs state) same_columns found)
 
 gained_none : (written : Option (List ℕ)) → written ≡ gained written []
 gained_none None = refl
@@ -108,6 +120,23 @@ rests_of depot disk mid now out then (Err (Fault dump.Disk)) later cause = rose_
 rests_of depot disk mid now out then (Err (Fault dump.Sink)) later cause = cause
 rests_of depot disk mid now out then (Err (Fault (dump.NotATable place))) later cause = tt
 
+-- what a dump of a table leaves, of the rows that its blocks decode to
+abbrev pub LeavesOf : (journal : JournalState) (image : List ℕ) (columns : List Column) → SinkState → SinkState → Result (Unit {0}) (Stop DumpFault) → Type 0
+LeavesOf journal image columns out then answer = (text : List ℕ) → (table : TellsOf journal image text) → (rows : List (List Value))
+    → table_rows columns (16 + length text) (row_blocks table.blocks) ≡ Ok rows → Leaves (dump_text columns rows) out then answer
+
+-- and that it blames no such table
+abbrev pub IsSoundOf : (journal : JournalState) (image : List ℕ) (columns : List Column) → Result (Unit {0}) (Stop DumpFault) → Type 0
+IsSoundOf journal image columns answer = (place : ℕ) → answer ≡ Err (Fault (dump.NotATable place)) → (text : List ℕ) → (table : TellsOf journal image text) → (rows : List (List Value))
+    → table_rows columns (16 + length text) (row_blocks table.blocks) ≡ Ok rows → ⊥
+
+-- what any disk's dump leaves: that of some rows of the columns
+abbrev pub LeavesSome : List Column → SinkState → SinkState → Result (Unit {0}) (Stop DumpFault) → Type 0
+LeavesSome columns out then answer = (some : List (List Value)) × All (Fits columns) some × Leaves (dump_text columns some) out then answer
+
+pub some_as : (columns others : List Column) (out then : SinkState) (answer : Result (Unit {0}) (Stop DumpFault)) → columns ≡ others → LeavesSome columns out then answer → LeavesSome others out then answer
+some_as own others out then answer same = subst (λ (cs : List Column). LeavesSome cs out then answer) same
+
 -- what was found of the table, and what its rows' dump did
 pub record Showed (job : FlowText) (disk : DiskState) (out then : SinkState) (answer : Result (Unit {0}) (Stop DumpFault)) : Type 0 where
   pub committed : List (List Value)
@@ -118,8 +147,7 @@ pub record Showed (job : FlowText) (disk : DiskState) (out then : SinkState) (an
 
 pub showed : FoundOnce → (job : FlowText) (depot : DepotState) (disk mid now : DiskState) (out then : SinkState) (answer : Result (Unit {0}) (Stop DumpFault))
     → Spares disk now → Elapses disk mid → OnlyReads mid now → (IsTrue disk.honest → Showed job disk out then answer)
-    → (some : List (List Value)) × All (Fits (root_columns job.flow.nodes)) some × Leaves (dump_text (root_columns job.flow.nodes) some) out then answer
-    → IfFault answer (IsCaused mid now out then) → out.faults ≤ then.faults → Dumps job (devices depot disk out) (devices depot now then) (reason_in answer)
+    → LeavesSome (root_columns job.flow.nodes) out then answer → IfFault answer (IsCaused mid now out then) → out.faults ≤ then.faults → Dumps job (devices depot disk out) (devices depot now then) (reason_in answer)
 showed once job depot disk mid now out then answer spares earlier reads shows any cause faults = record {
   depot = refl;
   elapses = time_on disk mid now earlier reads.elapses;
@@ -132,3 +160,19 @@ showed once job depot disk mid now out then answer spares earlier reads shows an
   rests = rests_of depot disk mid now out then answer earlier.faults cause;
   faults = faults;
 }
+
+-- of a table that was opened
+pub showed_of : (job : FlowText) (disk : DiskState) (out then : SinkState) (answer : Result (Unit {0}) (Stop DumpFault)) (journal : JournalState) (image text : List ℕ) (columns : List Column)
+    → image ≡ disk.file → text ≡ job.text → columns ≡ root_columns job.flow.nodes → Starts (Made journal) image text columns
+    → LeavesOf journal image columns out then answer → IsSoundOf journal image columns answer → Showed job disk out then answer
+showed_of job disk out then answer journal image text own same_image same_text same_columns (told, (committed, decodes)) leaves sound =
+    let has : HasRows image text own committed journal.ended = record { blocks = row_blocks told.blocks; holds = (told_rows journal image text told).holds; decodes = decodes } in
+    record {
+      committed = committed;
+      ended = journal.ended;
+      has = subst (λ (i : List ℕ). HasRows i job.text (root_columns job.flow.nodes) committed journal.ended) same_image
+          (subst (λ (t : List ℕ). HasRows image t (root_columns job.flow.nodes) committed journal.ended) same_text
+          (subst (λ (cs : List Column). HasRows image text cs committed journal.ended) same_columns has));
+      leaves = subst (λ (cs : List Column). Leaves (dump_text cs committed) out then answer) same_columns (leaves text told committed decodes);
+      none = λ place is. sound place is text told committed decodes;
+    }

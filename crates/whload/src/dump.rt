@@ -10,7 +10,7 @@ ghost use Rattle.whload.specs.Stops.{reason_of_table, reason_of_dump};
 use crate::Reason;
 use crate::find::Found;
 use commit_disk::{Attached, TableFault};
-use load_runner::open_table;
+use load_runner::{found_once, open_table};
 use outside::{Disk, Sink};
 use std::alloc::Global;
 use table_dump::DumpFault;
@@ -27,6 +27,7 @@ pub fn dump<K: Disk, S: Sink>(
         (devices depot (K.state disk.old) (S.state out.old))
         (devices depot (K.state disk.new) (S.state out.new)) (answer_of result) }
 {
+    found_once();
     let schema = &found.flow.root_node().schema;
     let journal = match open_table(alloc, disk, &found.text, schema) {
         Ok(Attached::Made(journal)) => journal,
