@@ -1,19 +1,16 @@
 -- Rows that are put, block by block.
-use Rattle.std.proofs.Common.{◌≡◌, ◌≤◌, ◌+◌, ℕ, List, [], ◌∷◌, ◌++◌, take, All, OnOk, Option, Some, Result, Ok, Err, refl, sym, ap, subst, ◌∙◌, add-one, append-nil, arith}
+use Rattle.std.proofs.Common.{◌≡◌, ◌≤◌, ◌+◌, ℕ, List, [], ◌∷◌, ◌++◌, take, All, OnOk, Some, Result, Ok, Err, sym, ap, subst, ◌∙◌, add-one, append-nil, arith}
 use Rattle.std.specs.Prelude.{slice_get}
 use Rattle.std.proofs.Math.Seq.{take-suc}
 use Rattle.std.proofs.lemmas.Option.{slice_get_within, get_or_from_slice_get}
 use Rattle.std.proofs.lemmas.List.Concat.{flat_map-append}
 use Rattle.std.proofs.lemmas.List.Elements.{All-nil, All-append, All-push}
-use Rattle.outside.specs.Counts.{Rose, counted}
+use Rattle.outside.specs.Counts.{Rose}
 use Rattle.outside.specs.Disk.{DiskState}
-use Rattle.outside.specs.Sink.{SinkState, Gains, GainsFront}
-use Rattle.tuple_schema.specs.declared.memory.Stop.{Stop}
-use Rattle.tuple_schema.specs.declared.memory.Stop.TheVariants as stop
+use Rattle.outside.specs.Sink.{SinkState, Gains}
 use Rattle.tuple_schema.specs.declared.value.Value.{Value}
 use Rattle.tuple_schema.specs.declared.schema.Column.{Column}
 use Rattle.tuple_schema.specs.Schemas.{Fits}
-use Rattle.tuple_schema.specs.Stops.{IfFault}
 use Rattle.table_dump.specs.declared.fault.DumpFault.{DumpFault}
 use Rattle.table_dump.specs.declared.fault.DumpFault.TheVariants as fault
 use Rattle.table_dump.specs.Stops.{IsCaused, IsOutputFault}

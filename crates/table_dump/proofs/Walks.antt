@@ -1,5 +1,5 @@
 -- The blocks of a table, from a gate on, and their rows.
-use Rattle.std.proofs.Common.{◌≡◌, ◌≤◌, ◌<◌, ◌+◌, ℕ, List, [], ◌∷◌, ◌++◌, length, map, Bool, true, false, Result, Ok, Err, Option, Some, refl, sym, ap, subst, ◌∙◌, arith, append_assoc, append-nil, length-append}
+use Rattle.std.proofs.Common.{◌≡◌, ◌<◌, ◌+◌, ℕ, List, [], ◌∷◌, ◌++◌, length, map, Bool, true, false, Result, Ok, Err, Option, Some, refl, sym, ap, subst, ◌∙◌, arith, append_assoc, append-nil, length-append}
 use Rattle.std.specs.List.{flat_map}
 use Rattle.std.proofs.lemmas.List.Concat.{flat_map-append}
 use Rattle.tuple_schema.specs.declared.value.Value.{Value}
@@ -9,7 +9,7 @@ use Rattle.tuple_schema.specs.declared.memory.Stop.TheVariants as stop
 use Rattle.tuple_schema.specs.Stops.{◌>>=◌}
 use Rattle.commit_disk.specs.declared.attaching.TableFault.{TableFault}
 use Rattle.commit_disk.specs.declared.attaching.TableFault.TheVariants as table_fault
-use Rattle.commit_disk.specs.Table.{Stored, TableBlock, rows_block, end_block, HoldsBlocksUpTo, front, opened, head, block_bytes, content_of, table, row_blocks, has_end}
+use Rattle.commit_disk.specs.Table.{Stored, TableBlock, HoldsBlocksUpTo, front, opened, head, block_bytes, content_of, table, row_blocks, has_end}
 use Rattle.commit_disk.specs.Attach.{TellsOf}
 use Rattle.commit_disk.specs.Journal.{JournalState}
 use Rattle.commit_disk.specs.BlockHeads.{IsBlockAt}
@@ -125,9 +125,9 @@ stands_at_first columns journal file text told =
     let rows = row_blocks told.blocks in
     let ended = has_end told.blocks in
     let same : map content_of told.blocks ≡ rows ++ ends ended =
-        ap (map content_of) (as_table told.blocks told.holds.holds.placed) ∙ contents_of_table rows ended in
+    ap (map content_of) (as_table told.blocks told.holds.holds.placed) ∙ contents_of_table rows ended in
     let all : table_rows columns first (map content_of told.blocks) ≡ table_rows columns first rows =
-        ap (table_rows columns first) same ∙ with_end columns first rows ended in
+    ap (table_rows columns first) same ∙ with_end columns first rows ended in
     record {
       before = [];
       rest = told.blocks;
@@ -179,7 +179,7 @@ module _ (columns : List Column) (file text : List ℕ) (blocks : List TableBloc
           let next = next_gate gate (content_of b) in
           let others = map content_of rest in
           let parts : reading ≡ behind done (rows_from columns next others (block_rows columns gate (content_of b))) =
-              whole ∙ ap (behind done) (first_off columns gate (content_of b) others) in
+          whole ∙ ap (behind done) (first_off columns gate (content_of b) others) in
           record {
             block = b;
             here = record { text = text; before = before; behind = rest; holds = subst (HoldsBlocksUpTo last file text) here.0 holds; at = here.1 };

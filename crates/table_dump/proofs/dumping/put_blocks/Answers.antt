@@ -1,4 +1,4 @@
-use Rattle.std.proofs.Common.{◌≡◌, ◌∙◌, ◌<◌, ◌+◌, ◌++◌, ◌≤◌, ℕ, List, [], length, Option, ap, Result, Ok, Err, Some, refl, sym, subst, arith}
+use Rattle.std.proofs.Common.{◌≡◌, ◌∙◌, ◌<◌, ◌+◌, ◌++◌, ◌≤◌, ℕ, List, [], length, Option, ap, Ok, Err, Some, refl, sym, subst, arith}
 use Rattle.std.proofs.lemmas.Result.{err_from_is_err_and}
 use Rattle.outside.specs.Sink.{Gains, GainsFront}
 use Rattle.outside.specs.Moments.{no_read, read_on}
@@ -53,9 +53,9 @@ returns-in_err-text-in-Ok-Some-clause-rows g c = λ honest text table rows e.
     let reading = table_rows columns (16 + length text) (row_blocks table.blocks) in
     let has = c.loop-next.invariant.told honest text table in
     let stands = stands_on columns (g.K.Disk.state c.args.disk.now).file text table.blocks at journal.gate reading has.done table.holds next taken lt has.stands
-        (λ block here. subst (λ (cs : List Column). ReadsBlock (Ok (Some next)) taken (next_gate at (content_of block)) (block_rows cs at (content_of block))) cleared
-        (subst (λ (o : Option ℕ). ReadsBlock (Ok o) taken (next_gate at (content_of block)) (block_rows c.clear.new.self.columns at (content_of block))) c.in-Ok-Some.field-0-is
-        (c.in-Ok-Some.ensures.rows (read.elapses.honest ∙ honest) block (subst (λ (file : List ℕ). IsBlockAt at journal.gate file block) (sym (read.keeps.file honest)) here)))) in
+    (λ block here. subst (λ (cs : List Column). ReadsBlock (Ok (Some next)) taken (next_gate at (content_of block)) (block_rows cs at (content_of block))) cleared
+    (subst (λ (o : Option ℕ). ReadsBlock (Ok o) taken (next_gate at (content_of block)) (block_rows c.clear.new.self.columns at (content_of block))) c.in-Ok-Some.field-0-is
+    (c.in-Ok-Some.ensures.rows (read.elapses.honest ∙ honest) block (subst (λ (file : List ℕ). IsBlockAt at journal.gate file block) (sym (read.keeps.file honest)) here)))) in
     let p = err_from_is_err_and c.from_residual-in_err-text-in-Ok-Some.result c.from_residual-in_err-text-in-Ok-Some.ensures.1 in
     rw p.1 (fails_with columns text table.blocks at next reading rows taken old mid new has stands e
     (subst (λ (cs : List Column). GainsFront (rows_text cs taken) mid new) filled c.in_err-text-in-Ok-Some.ensures.rows))
