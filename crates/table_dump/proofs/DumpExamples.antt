@@ -1,5 +1,5 @@
 -- A dump, computed.
-use Rattle.std.proofs.Common.{◌≡◌, ℕ, List, [], ◌∷◌, pos, true, refl}
+use Rattle.std.proofs.Common.{◌≡◌, List, [], ◌∷◌, pos, true, refl}
 use Rattle.std.specs.Prelude.{codes}
 use Rattle.std.specs.Fmt.{digits}
 use Rattle.csv.specs.Writing.{escaped, fields_text, is_blank}

@@ -1,22 +1,19 @@
 -- Rows that are put, block by block.
-use Rattle.std.proofs.Common.{◌≡◌, ◌≤◌, ◌+◌, ℕ, List, [], ◌∷◌, ◌++◌, take, All, OnOk, Option, Some, Result, Ok, Err, refl, sym, ap, subst, ◌∙◌, add-one, append-nil, arith}
+use Rattle.std.proofs.Common.{◌≡◌, ◌≤◌, ◌+◌, ℕ, List, [], ◌∷◌, ◌++◌, take, All, OnOk, Some, Result, Ok, Err, sym, ap, subst, ◌∙◌, add-one, append-nil, arith}
 use Rattle.std.specs.Prelude.{slice_get}
 use Rattle.std.proofs.Math.Seq.{take-suc}
 use Rattle.std.proofs.lemmas.Option.{slice_get_within, get_or_from_slice_get}
 use Rattle.std.proofs.lemmas.List.Concat.{flat_map-append}
 use Rattle.std.proofs.lemmas.List.Elements.{All-nil, All-append, All-push}
-use Rattle.outside.specs.Counts.{Rose, counted}
+use Rattle.outside.specs.Counts.{Rose}
 use Rattle.outside.specs.Disk.{DiskState}
-use Rattle.outside.specs.Sink.{SinkState, Gains, GainsFront}
-use Rattle.tuple_schema.specs.declared.memory.Stop.{Stop}
-use Rattle.tuple_schema.specs.declared.memory.Stop.TheVariants as stop
+use Rattle.outside.specs.Sink.{SinkState, Gains}
 use Rattle.tuple_schema.specs.declared.value.Value.{Value}
 use Rattle.tuple_schema.specs.declared.schema.Column.{Column}
 use Rattle.tuple_schema.specs.Schemas.{Fits}
-use Rattle.tuple_schema.specs.Stops.{IfFault}
 use Rattle.table_dump.specs.declared.fault.DumpFault.{DumpFault}
 use Rattle.table_dump.specs.declared.fault.DumpFault.TheVariants as fault
-use Rattle.table_dump.specs.Stops.{IsCaused, IsOutputFault, IsOfDevice}
+use Rattle.table_dump.specs.Stops.{IsCaused, IsOutputFault}
 use Rattle.table_dump.specs.Texts.{record_text, printed, rows_text, Leaves}
 use Rattle.table_dump.proofs.Puts.{puts_none, puts_front, leaves_both}
 
@@ -64,12 +61,6 @@ pub output_caused : (disk disk_now : DiskState) (old mid new : SinkState) (f : D
 output_caused disk disk_now old mid new fault.Disk le is = absurd is
 output_caused disk disk_now old mid new fault.Sink le is = rose_later old.faults mid.faults new.faults le is
 output_caused disk disk_now old mid new (fault.NotATable place) le is = tt
-
--- a fault of the output isn't one of the table
-pub output_of_device : (old new : SinkState) (f : DumpFault) → IsOutputFault old new f → IsOfDevice f
-output_of_device old new fault.Disk is = absurd is
-output_of_device old new fault.Sink is = tt
-output_of_device old new (fault.NotATable place) is = absurd is
 
 -- ---- row by row
 

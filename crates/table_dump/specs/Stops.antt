@@ -1,5 +1,5 @@
 -- Why a dump stops.
-use Rattle.std.specs.Prelude.{◌≡◌, ⊤}
+use Rattle.std.specs.Prelude.{◌≡◌, ℕ, Option, Some, None, Result, Ok, Err, ⊤}
 use Rattle.outside.specs.Counts.{Rose}
 use Rattle.outside.specs.Disk.{DiskState}
 use Rattle.outside.specs.Sink.{SinkState}
@@ -22,11 +22,13 @@ IsOutputFault out out_now fault.Disk = ⊥
 IsOutputFault out out_now fault.Sink = Rose out.faults out_now.faults
 IsOutputFault out out_now (fault.NotATable place) = ⊥
 
--- a device failed, and the table isn't blamed
-abbrev pub IsOfDevice : DumpFault → Type 0
-IsOfDevice fault.Disk = ⊤
-IsOfDevice fault.Sink = ⊤
-IsOfDevice (fault.NotATable place) = ⊥
+-- Ok says that no place is wrong, and NotATable that this one is the first
+abbrev pub Judges : {T : Type 0} → Result T (Stop DumpFault) → Option ℕ → Type 0
+Judges (Ok done) wrong = wrong ≡ None
+Judges (Err stop.Memory) wrong = ⊤
+Judges (Err (stop.Fault fault.Disk)) wrong = ⊤
+Judges (Err (stop.Fault fault.Sink)) wrong = ⊤
+Judges (Err (stop.Fault (fault.NotATable place))) wrong = wrong ≡ Some place
 
 -- a stop of reading blocks: it has nothing to do with the flow text
 abbrev pub IsOfReading : Stop TableFault → Type 0

@@ -9,9 +9,10 @@ ghost use Rattle.tuple_schema.specs.declared.memory.Stop.TheVariants as stop;
 ghost use Rattle.commit_disk.specs.Table.{row_blocks};
 ghost use Rattle.commit_disk.specs.Attach.{TellsOf};
 ghost use Rattle.table_read.specs.Rows.{table_rows};
+ghost use Rattle.table_read.specs.Places.{wrong_place};
 ghost use Rattle.table_dump.specs.declared.fault.DumpFault.TheVariants as fault;
 ghost use Rattle.table_dump.specs.Texts.{rows_text, names_text, dump_text, Leaves};
-ghost use Rattle.table_dump.specs.Stops.{IsCaused, IsOutputFault, IsOfDevice};
+ghost use Rattle.table_dump.specs.Stops.{IsCaused, IsOutputFault, Judges};
 
 use crate::DumpFault;
 use crate::fault::of_reading;
@@ -24,7 +25,7 @@ use table_read::next_block;
 use tuple_schema::{Schema, Stop};
 
 /// Writes the table that the journal tells of to the output: the names of its columns, and then its rows, each as a
-/// record of CSV. At most one block is in memory.
+/// record of CSV. At most one block and its text are in memory.
 ///
 /// A text is quoted where it has to be, Null has no text, and a record of one empty field is `""`. A record ends with
 /// a line feed.
@@ -46,6 +47,10 @@ pub fn dump<K: Disk, S: Sink>(
     ensures any_disk { (rows : List (List Value)) × All (Fits schema.now) rows
         × Leaves (dump_text schema.now rows) (S.state out.old) (S.state out.new) result }
 
+    // Ok comes only where the rows decode, and NotATable names the first wrong place.
+    ensures judges { IsTrue (K.state disk.old).honest → (text : List ℕ)
+        → (table : TellsOf journal.now (K.state disk.old).file text)
+        → Judges result (wrong_place (table_rows schema.now (16 + length text) (row_blocks table.blocks))) }
     ensures sound { (place : ℕ) → result ≡ Err (stop.Fault (fault.NotATable place))
         → IsTrue (K.state disk.old).honest → (text : List ℕ)
         → (table : TellsOf journal.now (K.state disk.old).file text) → (rows : List (List Value))
@@ -112,7 +117,10 @@ fn put_blocks<K: Disk, S: Sink>(
     ensures rows { IsTrue (K.state disk.old).honest → (text : List ℕ)
         → (table : TellsOf journal.now (K.state disk.old).file text) → (rows : List (List Value))
         → table_rows schema.now (16 + length text) (row_blocks table.blocks) ≡ Ok rows
-        → Leaves (rows_text schema.now rows) (S.state out.old) (S.state out.new) result × IfFault result IsOfDevice }
+        → Leaves (rows_text schema.now rows) (S.state out.old) (S.state out.new) result }
+    ensures judges { IsTrue (K.state disk.old).honest → (text : List ℕ)
+        → (table : TellsOf journal.now (K.state disk.old).file text)
+        → Judges result (wrong_place (table_rows schema.now (16 + length text) (row_blocks table.blocks))) }
     ensures any_disk { (rows : List (List Value)) × All (Fits schema.now) rows
         × Leaves (rows_text schema.now rows) (S.state out.old) (S.state out.new) result }
     ensures causes { IfFault result

@@ -1,6 +1,5 @@
-use Rattle.std.proofs.Common.{◌≡◌, ◌≤◌, ◌+◌, ◌-◌, ℕ, List, length, IsTrue, Ok}
+use Rattle.std.proofs.Common.{◌≡◌, ◌≤◌, ◌+◌, ◌-◌, ℕ, List, length, IsTrue}
 use Rattle.outside.specs.Disk.{OnlyReads}
-use Rattle.tuple_schema.specs.declared.value.Value.{Value}
 use Rattle.commit_disk.specs.Table.{row_blocks}
 use Rattle.commit_disk.specs.Attach.{TellsOf}
 use Rattle.table_read.specs.Rows.{table_rows}
@@ -15,9 +14,8 @@ invariant-loop-next g l = record {
   within : l.at ≤ l.journal.gate;
   output : (g.S.Sink.state l.fn.out).faults ≤ (g.S.Sink.state l.out).faults;
   any : SomeRows l.schema (g.S.Sink.state l.fn.out) (g.S.Sink.state l.out);
-  told : IsTrue (g.K.Disk.state l.fn.disk).honest → (text : List ℕ) → (table : TellsOf l.journal (g.K.Disk.state l.fn.disk).file text) → (rows : List (List Value))
-      → table_rows l.schema (16 + length text) (row_blocks table.blocks) ≡ Ok rows
-      → HasPut l.schema text table.blocks l.at rows (g.S.Sink.state l.fn.out) (g.S.Sink.state l.out);
+  told : IsTrue (g.K.Disk.state l.fn.disk).honest → (text : List ℕ) → (table : TellsOf l.journal (g.K.Disk.state l.fn.disk).file text)
+      → HasPut l.schema text table.blocks l.at (table_rows l.schema (16 + length text) (row_blocks table.blocks)) (g.S.Sink.state l.fn.out) (g.S.Sink.state l.out);
 }
 
 abbrev pub decreases-loop-next : goal.decreases-loop-next
