@@ -1,5 +1,5 @@
 -- What stands in the output of a table's rows.
-use Rattle.std.proofs.Common.{◌≡◌, ◌<◌, ◌≤◌, arith, ℕ, List, ◌++◌, Option, Some, Result, Ok, Err, sym, subst, ap, ◌∙◌}
+use Rattle.std.proofs.Common.{◌≡◌, ◌<◌, ◌≤◌, arith, ℕ, List, ◌++◌, Option, Result, Ok, Err, sym, subst, ap, ◌∙◌}
 use Rattle.outside.specs.Sink.{SinkState, Gains, GainsFront}
 use Rattle.tuple_schema.specs.declared.memory.Stop.{Stop}
 use Rattle.tuple_schema.specs.declared.memory.Stop.TheVariants as stop
@@ -7,7 +7,6 @@ use Rattle.tuple_schema.specs.Stops.{IfFault}
 use Rattle.tuple_schema.specs.declared.value.Value.{Value}
 use Rattle.tuple_schema.specs.declared.schema.Column.{Column}
 use Rattle.commit_disk.specs.Table.{TableBlock}
-use Rattle.table_read.specs.Places.{wrong_place}
 use Rattle.table_dump.specs.declared.fault.DumpFault.{DumpFault}
 use Rattle.table_dump.specs.declared.fault.DumpFault.TheVariants as fault
 use Rattle.table_dump.specs.Stops.{IsOutputFault, Judges}
@@ -60,11 +59,6 @@ all_of rows = Ok rows
 
 pub same_rows : (xs ys : Rows) → all_of xs ≡ all_of ys → xs ≡ ys
 same_rows xs ys e = cc
-
--- rows that decode have no wrong place
-pub none_wrong : (reading : Result Rows ℕ) (rows : Rows) (place : ℕ) → reading ≡ Ok rows → wrong_place reading ≡ Some place → ⊥
-none_wrong (Ok found) rows place e wrong = absurd cc
-none_wrong (Err other) rows place e wrong = absurd cc
 
 pub below : (a b : ℕ) → a ≤ b → (a ≡ b → ⊥) → a < b
 below a b le ne = omega (arith, le, ne)

@@ -5,12 +5,10 @@ ghost use Rattle.outside.specs.Words.{OnlyReads};
 ghost use Rattle.tuple_schema.specs.Schemas.{Fits};
 ghost use Rattle.tuple_schema.specs.Stops.{IfFault};
 ghost use Rattle.tuple_schema.specs.declared.value.Value.{Value};
-ghost use Rattle.tuple_schema.specs.declared.memory.Stop.TheVariants as stop;
 ghost use Rattle.commit_disk.specs.Table.{row_blocks};
 ghost use Rattle.commit_disk.specs.Attach.{TellsOf};
 ghost use Rattle.table_read.specs.Rows.{table_rows};
 ghost use Rattle.table_read.specs.Places.{wrong_place};
-ghost use Rattle.table_dump.specs.declared.fault.DumpFault.TheVariants as fault;
 ghost use Rattle.table_dump.specs.Texts.{rows_text, names_text, dump_text, Leaves};
 ghost use Rattle.table_dump.specs.Stops.{IsCaused, IsOutputFault, Judges};
 
@@ -51,10 +49,6 @@ pub fn dump<K: Disk, S: Sink>(
     ensures judges { IsTrue (K.state disk.old).honest → (text : List ℕ)
         → (table : TellsOf journal.now (K.state disk.old).file text)
         → Judges result (wrong_place (table_rows schema.now (16 + length text) (row_blocks table.blocks))) }
-    ensures sound { (place : ℕ) → result ≡ Err (stop.Fault (fault.NotATable place))
-        → IsTrue (K.state disk.old).honest → (text : List ℕ)
-        → (table : TellsOf journal.now (K.state disk.old).file text) → (rows : List (List Value))
-        → table_rows schema.now (16 + length text) (row_blocks table.blocks) ≡ Ok rows → ⊥ }
     ensures causes { IfFault result
         (IsCaused (K.state disk.old) (K.state disk.new) (S.state out.old) (S.state out.new)) }
     ensures only_read { OnlyReads (K.state disk.old) (K.state disk.new) }

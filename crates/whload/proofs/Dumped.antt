@@ -17,11 +17,12 @@ use Rattle.commit_disk.specs.Attach.{TellsOf}
 use Rattle.commit_disk.specs.Journal.{JournalState}
 use Rattle.commit_disk.specs.RowTables.{told_rows}
 use Rattle.table_read.specs.Rows.{table_rows}
+use Rattle.table_read.specs.Places.{wrong_place}
 use Rattle.table_write.specs.Rows.{HasRows}
 use Rattle.table_dump.specs.declared.fault.DumpFault.{DumpFault}
 use Rattle.table_dump.specs.declared.fault.DumpFault.TheVariants as dump
 use Rattle.table_dump.specs.Texts.{dump_text, Leaves}
-use Rattle.table_dump.specs.Stops.{IsCaused}
+use Rattle.table_dump.specs.Stops.{IsCaused, Judges}
 use Rattle.load_runner.specs.Found.{State, unmade, rows, wrong, other, IsFound, FoundOnce}
 use Rattle.load_runner.specs.Sources.{root_columns}
 use Rattle.load_runner.specs.Starts.{Starts}
@@ -125,10 +126,18 @@ abbrev pub LeavesOf : (journal : JournalState) (image : List ℕ) (columns : Lis
 LeavesOf journal image columns out then answer = (text : List ℕ) → (table : TellsOf journal image text) → (rows : List (List Value))
     → table_rows columns (16 + length text) (row_blocks table.blocks) ≡ Ok rows → Leaves (dump_text columns rows) out then answer
 
--- and that it blames no such table
-abbrev pub IsSoundOf : (journal : JournalState) (image : List ℕ) (columns : List Column) → Result (Unit {0}) (Stop DumpFault) → Type 0
-IsSoundOf journal image columns answer = (place : ℕ) → answer ≡ Err (Fault (dump.NotATable place)) → (text : List ℕ) → (table : TellsOf journal image text) → (rows : List (List Value))
-    → table_rows columns (16 + length text) (row_blocks table.blocks) ≡ Ok rows → ⊥
+-- and what it says of the table
+abbrev pub JudgesOf : (journal : JournalState) (image : List ℕ) (columns : List Column) → Result (Unit {0}) (Stop DumpFault) → Type 0
+JudgesOf journal image columns answer = (text : List ℕ) → (table : TellsOf journal image text) → Judges answer (wrong_place (table_rows columns (16 + length text) (row_blocks table.blocks)))
+
+-- rows that decode have no wrong place
+none_wrong : (reading : Result (List (List Value)) ℕ) (committed : List (List Value)) (place : ℕ) → reading ≡ Ok committed → wrong_place reading ≡ Some place → ⊥
+none_wrong (Ok found) committed place e wrong = absurd cc
+none_wrong (Err at) committed place e wrong = absurd cc
+
+blames_none : (reading : Result (List (List Value)) ℕ) (committed : List (List Value)) (answer : Result (Unit {0}) (Stop DumpFault)) → reading ≡ Ok committed → Judges answer (wrong_place reading) → BlamesNone answer
+blames_none reading committed answer decodes judges place is =
+    none_wrong reading committed place decodes (subst (λ (r : Result (Unit {0}) (Stop DumpFault)). Judges r (wrong_place reading)) is judges)
 
 -- what any disk's dump leaves: that of some rows of the columns
 abbrev pub LeavesSome : List Column → SinkState → SinkState → Result (Unit {0}) (Stop DumpFault) → Type 0
@@ -164,8 +173,8 @@ showed once job depot disk mid now out then answer spares earlier reads shows an
 -- of a table that was opened
 pub showed_of : (job : FlowText) (disk : DiskState) (out then : SinkState) (answer : Result (Unit {0}) (Stop DumpFault)) (journal : JournalState) (image text : List ℕ) (columns : List Column)
     → image ≡ disk.file → text ≡ job.text → columns ≡ root_columns job.flow.nodes → Starts (Made journal) image text columns
-    → LeavesOf journal image columns out then answer → IsSoundOf journal image columns answer → Showed job disk out then answer
-showed_of job disk out then answer journal image text own same_image same_text same_columns (told, (committed, decodes)) leaves sound =
+    → LeavesOf journal image columns out then answer → JudgesOf journal image columns answer → Showed job disk out then answer
+showed_of job disk out then answer journal image text own same_image same_text same_columns (told, (committed, decodes)) leaves judges =
     let has : HasRows image text own committed journal.ended = record { blocks = row_blocks told.blocks; holds = (told_rows journal image text told).holds; decodes = decodes } in
     record {
       committed = committed;
@@ -174,5 +183,5 @@ showed_of job disk out then answer journal image text own same_image same_text s
           (subst (λ (t : List ℕ). HasRows image t (root_columns job.flow.nodes) committed journal.ended) same_text
           (subst (λ (cs : List Column). HasRows image text cs committed journal.ended) same_columns has));
       leaves = subst (λ (cs : List Column). Leaves (dump_text cs committed) out then answer) same_columns (leaves text told committed decodes);
-      none = λ place is. sound place is text told committed decodes;
+      none = blames_none (table_rows own (16 + length text) (row_blocks told.blocks)) committed answer decodes (judges text told);
     }

@@ -1,11 +1,3 @@
-use Rattle.std.proofs.Common.{◌+◌, length, Result, subst}
-use Rattle.tuple_schema.specs.declared.memory.Stop.{Stop}
-use Rattle.commit_disk.specs.Table.{row_blocks}
-use Rattle.table_read.specs.Rows.{table_rows}
-use Rattle.table_read.specs.Places.{wrong_place}
-use Rattle.table_dump.specs.declared.fault.DumpFault.{DumpFault}
-use Rattle.table_dump.specs.Stops.{Judges}
-use Rattle.table_dump.proofs.Dumped.{none_wrong}
 use Rattle.table_dump.specs.Texts.{names_text, rows_text}
 use Rattle.table_dump.proofs.Puts.{leaves_both}
 use Rattle.table_dump.proofs.dumping.dump.Goals as goal
@@ -25,8 +17,3 @@ returns-clause-any_disk g c =
       leaves_both (g.S.Sink.state c.args.out.now) (g.S.Sink.state c.put_names.new.out) (g.S.Sink.state c.put_blocks.new.out) (names_text columns) (rows_text columns some.0)
           c.put_blocks.result c.in_ok-put_names.ensures.text some.2,
     )
-
-pub returns-clause-sound : goal.returns-clause-sound
-returns-clause-sound g c = λ place is honest text table rows e.
-    let reading = table_rows c.args.schema.now (16 + length text) (row_blocks table.blocks) in
-    none_wrong reading rows place e (subst (λ (r : Result (Unit {0}) (Stop DumpFault)). Judges r (wrong_place reading)) is (c.put_blocks.ensures.judges honest text table))

@@ -43,7 +43,7 @@ returns-in-Ok g c = λ depot.
     let earlier = c.open_table.ensures.elapses in
     showed c.found_once.ensures job depot disk opened now out then (Ok tt) (spares_on disk opened now earlier c.open_table.ensures.spares c.dump.ensures.only_read) earlier c.dump.ensures.only_read
     (λ is. showed_of job disk out then (Ok tt) c.in-Ok-Made.journal opened.file text columns (c.in-Ok-Made.ensures.settled.file is) c.deref.ensures.value same_columns
-    (rw c.in-Ok-Made.field-0-is at (c.in-Ok-Made.ensures.found is)) (c.in-Ok.ensures.rows (earlier.honest ∙ is)) (λ place e. c.in-Ok.ensures.sound place e (earlier.honest ∙ is)))
+    (rw c.in-Ok-Made.field-0-is at (c.in-Ok-Made.ensures.found is)) (c.in-Ok.ensures.rows (earlier.honest ∙ is)) (c.in-Ok.ensures.judges (earlier.honest ∙ is)))
     (some_as columns (root_columns job.flow.nodes) out then (Ok tt) same_columns c.in-Ok.ensures.any_disk) c.in-Ok.ensures.causes c.dump.ensures.output
 
 pub returns-in-Err-dump : goal.returns-in-Err-dump
@@ -60,5 +60,5 @@ returns-in-Err-dump g c = λ depot.
     let earlier = c.open_table.ensures.elapses in
     rw c.reason_of_dump.ensures (showed c.found_once.ensures job depot disk opened now out then (Err c.in-Err-dump.stop) (spares_on disk opened now earlier c.open_table.ensures.spares c.dump.ensures.only_read) earlier c.dump.ensures.only_read
     (λ is. showed_of job disk out then (Err c.in-Err-dump.stop) c.in-Ok-Made.journal opened.file text columns (c.in-Ok-Made.ensures.settled.file is) c.deref.ensures.value same_columns
-    (rw c.in-Ok-Made.field-0-is at (c.in-Ok-Made.ensures.found is)) (c.in-Err-dump.ensures.rows (earlier.honest ∙ is)) (λ place e. c.in-Err-dump.ensures.sound place e (earlier.honest ∙ is)))
+    (rw c.in-Ok-Made.field-0-is at (c.in-Ok-Made.ensures.found is)) (c.in-Err-dump.ensures.rows (earlier.honest ∙ is)) (c.in-Err-dump.ensures.judges (earlier.honest ∙ is)))
     (some_as columns (root_columns job.flow.nodes) out then (Err c.in-Err-dump.stop) same_columns c.in-Err-dump.ensures.any_disk) c.in-Err-dump.ensures.causes c.dump.ensures.output)
