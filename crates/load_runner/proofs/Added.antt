@@ -1,5 +1,5 @@
 -- Rows that were added to the table that was found.
-use Rattle.std.proofs.Common.{◌≡◌, ◌≢◌, inl, inr, ⊎_elim, ◌∙◌, ℕ, List, [], ◌+◌, length, IsTrue, Result, Ok, Err, false, refl, sym, ap, subst}
+use Rattle.std.proofs.Common.{◌≡◌, ◌≢◌, inl, inr, ⊎_elim, ◌∙◌, ℕ, List, [], IsTrue, Result, Ok, Err, false, refl, ap, subst}
 use Rattle.outside.specs.Words.{DiskState, Elapses, IsSettled}
 use Rattle.outside.specs.Moments.{rose_later}
 use Rattle.tuple_schema.specs.declared.schema.Column.{Column}
@@ -8,13 +8,12 @@ use Rattle.tuple_schema.specs.declared.memory.Stop.TheVariants.{Memory, Fault}
 use Rattle.list_algebra.specs.Bags.{Tuple}
 use Rattle.commit_disk.specs.declared.attaching.Attached.TheVariants.{NotMade, Made}
 use Rattle.commit_disk.specs.Journal.{JournalState, new_journal}
-use Rattle.commit_disk.specs.Table.{Stored, Holds, HoldsUpTo}
+use Rattle.commit_disk.specs.Table.{HoldsUpTo}
 use Rattle.table_write.specs.declared.writer.WriteFault.{WriteFault}
 use Rattle.table_write.specs.declared.writer.WriteFault.TheVariants as write
 use Rattle.table_write.specs.Cut.{cut}
-use Rattle.table_write.specs.Adds.{with_blocks, AllHaveRoom, IsFullBehind}
-use Rattle.load_runner.specs.Adding.{Addition, Finishes, EndsTable, FillsTable, FailsBetween}
-use Rattle.load_runner.specs.Safe.{IsStopped}
+use Rattle.table_write.specs.Adds.{AllHaveRoom, IsFullBehind}
+use Rattle.load_runner.specs.Adding.{Addition, Finishes, FillsTable, FailsBetween}
 
 -- either fault of writing
 pub stopped : {X : Type 0} (adding : Addition) (disk now : DiskState) (f : WriteFault) (answer : Result X (Stop WriteFault)) → answer ≡ Err (Fault f)

@@ -1,5 +1,5 @@
 -- The promise of a load, for each way in which it ends.
-use Rattle.std.proofs.Common.{◌≡◌, ◌≢◌, ◌≤◌, inl, inr, ◌∙◌, ℕ, ◌+◌, List, [], ◌++◌, length, take, drop, All, IfOk, OnOk, Bool, true, false, IsTrue, Option, Some, Result, Ok, Err, refl, sym, ap, subst, arith}
+use Rattle.std.proofs.Common.{◌≡◌, ◌≢◌, ◌≤◌, inl, inr, ◌∙◌, ℕ, ◌+◌, List, [], ◌++◌, length, take, drop, All, IfOk, Bool, true, false, IsTrue, Option, Some, Result, Ok, Err, refl, sym, ap, subst, arith}
 use Rattle.std.specs.Bool.{⊤}
 use Rattle.outside.specs.Moments.{rose_later, each_settled, spares_on}
 use Rattle.outside.specs.Words.{Rose, Each, DiskState, Elapses, IsSettled, Spares, Files, DepotState, Consults}

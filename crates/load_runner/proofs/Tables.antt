@@ -1,5 +1,5 @@
 -- Of an image and a text there is one table, and one list of rows.
-use Rattle.std.proofs.Common.{◌≡◌, inl, inr, ◌∙◌, ℕ, zero, suc, ◌+◌, List, [], ◌∷◌, ◌++◌, length, Bool, true, false, Result, Ok, Err, refl, sym, ap, length-append, arith}
+use Rattle.std.proofs.Common.{◌≡◌, inl, inr, ◌∙◌, ℕ, zero, suc, ◌+◌, List, [], ◌∷◌, ◌++◌, length, Bool, false, Result, Ok, Err, refl, sym, ap, length-append, arith}
 use Rattle.std.proofs.lemmas.List.Sums.{sum_by-cons}
 use Rattle.tuple_schema.specs.declared.value.Value.{Value}
 use Rattle.tuple_schema.specs.declared.schema.Column.{Column}
@@ -15,7 +15,7 @@ use Rattle.commit_disk.specs.Journal.{JournalState}
 use Rattle.commit_disk.specs.Attach.{TellsOf, VerdictsAgree, rows_in}
 use Rattle.table_read.specs.Rows.{or_place, no_rows_at, rows_at, block_rows, next_gate, table_rows}
 use Rattle.table_write.specs.Rows.{HoldsRows}
-use Rattle.load_runner.specs.Found.{State, unmade, rows, wrong, other, IsFound, FoundOnce}
+use Rattle.load_runner.specs.Found.{unmade, rows, wrong, other, IsFound, FoundOnce}
 
 -- what a reading that goes on has read first
 bind_ok : {A B F : Type 0} (first : Result A F) (next : A → Result B F) (b : B) → (first >>= next) ≡ Ok b → (a : A) × (first ≡ Ok a) × (next a ≡ Ok b)

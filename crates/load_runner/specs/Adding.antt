@@ -1,5 +1,5 @@
 -- What adding rows to the table that was found does.
-use Rattle.std.specs.Prelude.{◌≡◌, ℕ, List, take, All, IsTrue, Result, Ok, Err, true, false}
+use Rattle.std.specs.Prelude.{ℕ, List, take, All, IsTrue, Result, Ok, Err, true, false}
 use Rattle.outside.specs.Words.{Rose, Each, DiskState, IsSettled, LeftBetween, OnlyReads}
 use Rattle.tuple_schema.specs.declared.schema.Column.{Column}
 use Rattle.tuple_schema.specs.declared.memory.Stop.{Stop}

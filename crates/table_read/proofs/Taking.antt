@@ -1,5 +1,5 @@
 -- Taking rows one after the other.
-use Rattle.std.proofs.Common.{◌≡◌, ℕ, zero, suc, ◌+◌, ◌<◌, List, [], ◌∷◌, ◌++◌, length, drop, Result, Ok, Err, refl, sym, ap, subst, ◌∙◌, add-one, append_assoc, append-nil, arith}
+use Rattle.std.proofs.Common.{◌≡◌, ℕ, zero, suc, ◌+◌, ◌<◌, List, [], ◌∷◌, ◌++◌, length, drop, Result, Ok, Err, refl, sym, ap, ◌∙◌, add-one, append_assoc, append-nil, arith}
 use Rattle.tuple_schema.specs.declared.memory.Stop.{Stop}
 use Rattle.tuple_schema.specs.declared.memory.Stop.TheVariants as stop
 use Rattle.tuple_schema.specs.declared.value.Value.{Value}

@@ -1,5 +1,5 @@
 -- How far images differ where an append stopped.
-use Rattle.std.proofs.Common.{◌≡◌, ◌≤◌, ◌⊎◌, inl, inr, ℕ, ◌+◌, List, ◌++◌, length, take, map, Bool, false, true, refl, sym, ap, ◌∙◌, length-append, arith}
+use Rattle.std.proofs.Common.{◌≡◌, ◌≤◌, ◌⊎◌, inl, inr, ℕ, ◌+◌, List, length, take, map, Bool, false, true, refl, sym, ap, ◌∙◌, length-append, arith}
 use Rattle.std.proofs.lemmas.List.{length-take-le, length-map}
 use Rattle.tuple_schema.specs.declared.value.Value.{Value}
 use Rattle.commit_disk.specs.Table.{Stored, Holds, HoldsOnce}

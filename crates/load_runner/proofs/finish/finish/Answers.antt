@@ -1,4 +1,4 @@
-use Rattle.std.proofs.Common.{◌≡◌, ◌∙◌, inl, [], sym, subst}
+use Rattle.std.proofs.Common.{◌∙◌, inl, [], sym, subst}
 use Rattle.commit_disk.specs.declared.attaching.Attached.{Attached}
 use Rattle.commit_disk.specs.declared.attaching.Attached.TheVariants as attached
 use Rattle.table_write.specs.Cut.{cut}

@@ -1,4 +1,4 @@
-use Rattle.std.proofs.Common.{◌≡◌, ◌∙◌, List, ℕ, All, Bool, IsTrue, Result, Ok, true, Err, drop, length, ap, sym, subst}
+use Rattle.std.proofs.Common.{◌≡◌, ◌∙◌, List, ℕ, All, Bool, Result, Ok, true, Err, drop, length, ap, sym, subst}
 use Rattle.std.specs.Bool.{⊤}
 use Rattle.std.proofs.lemmas.List.Elements.{All-drop}
 use Rattle.std.proofs.lemmas.Result.{err_from_is_err_and}
@@ -8,10 +8,9 @@ use Rattle.tuple_schema.specs.Schemas.{Fits}
 use Rattle.tuple_schema.specs.declared.memory.Stop.{Stop}
 use Rattle.tuple_schema.specs.declared.memory.Stop.TheVariants.{Memory}
 use Rattle.tuple_schema.specs.declared.schema.Column.{Column}
-use Rattle.tuple_schema.specs.declared.value.Value.{Value}
 use Rattle.table_write.specs.declared.writer.WriteFault.{WriteFault}
 use Rattle.table_write.specs.Rows.{HoldsRows}
-use Rattle.load_runner.specs.Adding.{Addition, Finishes, EndsTable, OfOlds, LeavesGrown}
+use Rattle.load_runner.specs.Adding.{Finishes, EndsTable, OfOlds, LeavesGrown}
 use Rattle.load_runner.specs.Found.{State, IsFound, wrong, other}
 use Rattle.load_runner.specs.Jobs.{Job}
 use Rattle.load_runner.specs.Reports.{ended_report, skip_report}

@@ -1,8 +1,7 @@
-use Rattle.std.proofs.Common.{◌≡◌, ◌∙◌, ℕ, Err, Option, sym, subst, arith}
+use Rattle.std.proofs.Common.{◌∙◌, ℕ, Err, Option, sym, subst, arith}
 use Rattle.std.proofs.lemmas.Result.{err_from_is_err_and}
 use Rattle.table_read.specs.Places.{Verifies}
 use Rattle.table_read.proofs.Standing.{rows_same, outside_stops}
-use Rattle.outside.specs.Moments.{read_on}
 use Rattle.table_read.proofs.blocks.verify_block.Goals as goal
 
 pub returns-in_err-head-clause-rows : goal.returns-in_err-head-clause-rows
