@@ -44,7 +44,11 @@ fn a_dump_over_a_device_that_fails_leaves_a_front(rt: HostRuntime) -> Result<(),
             ..dump_of(&first.table)
         };
         let left = carry_out(rt.alloc(), &given)?;
-        assert_eq!(rt; left.said.as_str(), answer, "at {disk_fails} and {out_fails}");
+        assert_eq!(rt;
+            left.said.as_str(),
+            answer,
+            "at {disk_fails} and {out_fails}"
+        );
         assert_eq!(rt; left.table.as_slice(), first.table.as_slice());
     }
     Ok(())
