@@ -1,6 +1,5 @@
 // Dumping a table.
 ghost use Rattle.std.specs.Prelude.{◌≡◌, ◌≤◌, ◌<◌, ◌+◌, ℕ, List, Ok, Err, All, length, IsTrue};
-ghost use Rattle.outside.specs.Counts.{HasCause};
 ghost use Rattle.outside.specs.Words.{OnlyReads};
 ghost use Rattle.tuple_schema.specs.Schemas.{Fits};
 ghost use Rattle.tuple_schema.specs.Stops.{IfFault};
