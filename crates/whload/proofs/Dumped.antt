@@ -132,8 +132,8 @@ JudgesOf journal image columns answer = (text : List ℕ) → (table : TellsOf j
 
 -- rows that decode have no wrong place
 none_wrong : (reading : Result (List (List Value)) ℕ) (committed : List (List Value)) (place : ℕ) → reading ≡ Ok committed → wrong_place reading ≡ Some place → ⊥
-none_wrong (Ok found) committed place e wrong = absurd cc
-none_wrong (Err at) committed place e wrong = absurd cc
+none_wrong (Ok found) committed place e bad = absurd cc
+none_wrong (Err at) committed place e bad = absurd cc
 
 blames_none : (reading : Result (List (List Value)) ℕ) (committed : List (List Value)) (answer : Result (Unit {0}) (Stop DumpFault)) → reading ≡ Ok committed → Judges answer (wrong_place reading) → BlamesNone answer
 blames_none reading committed answer decodes judges place is =

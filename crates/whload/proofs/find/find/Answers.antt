@@ -1,5 +1,4 @@
 use Rattle.std.proofs.Common.{[], sym, ap}
-use Rattle.outside.specs.Words.{Rose}
 use Rattle.whload.specs.Verdict.{known_names, declared_names}
 use Rattle.whload.proofs.Told.{told_alike}
 use Rattle.whload.proofs.Verdicts.{text_refused, text_read, raw_refused, raw_read}

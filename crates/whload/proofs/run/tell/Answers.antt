@@ -1,4 +1,4 @@
-use Rattle.std.proofs.Common.{◌≡◌, ◌∙◌, ℕ, List, Option, sym, subst}
+use Rattle.std.proofs.Common.{◌∙◌, ℕ, List, Option, sym, subst}
 use Rattle.whload.specs.declared.reason.Reason.{Reason}
 use Rattle.whload.specs.Answers.{GainsLine, Notes}
 use Rattle.whload.proofs.Told.{noted, no_memory}
