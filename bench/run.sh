@@ -17,6 +17,7 @@ awk 'BEGIN {
         print ""
     }
 }' > "$work/whload/nums.csv"
+kinds=$(head -1 "$work/whload/nums.csv" | sed 's/[^,]*/int/g')
 columns=$(head -1 "$work/whload/nums.csv" | sed 's/[^,]*/"& int"/g; s/,/, /g')
 cat > "$work/whload/flow.toml" <<EOF
 table = { input = "nums" }
@@ -32,7 +33,7 @@ instructions() {
 
 bytes=$(stat -c %s "$work/whload/nums.csv")
 whload=$(instructions "$program" load "$work/whload")
-twin=$(instructions "$work/target/release/twin" "$work/twin")
+twin=$(instructions "$work/target/release/twin" load "$work/twin" nums.csv "$kinds")
 sqlite=$(instructions sqlite3 "$work/sqlite.db" -cmd ".mode csv" ".import $work/twin/nums.csv nums")
 cmp "$work/whload/table.whl" "$work/twin/table.whl"
 awk -v b="$bytes" -v w="$whload" -v t="$twin" -v s="$sqlite" 'BEGIN {

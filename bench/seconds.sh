@@ -52,18 +52,19 @@ sqlite_import() {
 unsynced() { env LD_PRELOAD="$work/no_sync.so" "$@"; }
 
 twin="$work/target/release/twin"
+kinds=int,int,int,int,int,int,int,int
 for round in 1 2 3; do
     rm -f "$work"/*/table.whl
     whole=$(seconds "$program" load "$work/whole")
     half=$(($(size "$work/whole/table.whl") / 2))
     stopped=$(seconds stopped_at_half)
     resumed=$(seconds "$program" load "$work/stopped")
-    plain=$(seconds "$twin" "$work/twin")
+    plain=$(seconds "$twin" load "$work/twin" nums.csv "$kinds")
     imported=$(seconds sqlite_import)
     for folder in stopped twin; do cmp "$work/whole/table.whl" "$work/$folder/table.whl"; done
     rm "$work/twin/table.whl"
     free=$(seconds unsynced "$program" load "$work/unsynced")
-    plain_free=$(seconds unsynced "$twin" "$work/twin")
+    plain_free=$(seconds unsynced "$twin" load "$work/twin" nums.csv "$kinds")
     echo "$whole $free $stopped $resumed $plain $plain_free $imported"
 done > "$work/rounds"
 

@@ -1,9 +1,168 @@
-//! What whload does at this stage, in plain Rust with the real `csv` crate and no proofs: reads a CSV
-//! file of int columns whole, encodes its rows, and writes one table file with the same writes and syncs.
+//! What whload does at this stage, in plain Rust with the real `csv` crate and no proofs: `twin load DIR FILE COLUMNS`
+//! checks a CSV file, reads its rows, and writes one table file with the same writes and syncs; `twin dump DIR COLUMNS`
+//! checks that table and writes its rows as CSV. COLUMNS are kinds with commas between: `int`, `dec2`, `text`, and `?`
+//! behind one that may be empty.
 use std::error::Error;
 use std::fs::{self, OpenOptions};
-use std::io::{Seek, SeekFrom, Write};
+use std::io::{Read, Seek, SeekFrom, Write};
 use std::path::Path;
+
+type Outcome<T> = Result<T, Box<dyn Error>>;
+
+#[derive(Clone, Copy)]
+enum Kind {
+    Int,
+    Dec(u8),
+    Text,
+}
+
+#[derive(Clone, Copy)]
+struct Column {
+    kind: Kind,
+    nullable: bool,
+}
+
+enum Value {
+    Null,
+    Int(i64),
+    Dec(i64),
+    Text(String),
+}
+
+/// A value that its bytes or its field lend.
+enum Lent<'a> {
+    Null,
+    Int(i64),
+    Dec(i64),
+    Text(&'a str),
+}
+
+fn columns_of(text: &str) -> Outcome<Vec<Column>> {
+    let mut columns = Vec::new();
+    for word in text.split(',') {
+        let (word, nullable) = match word.strip_suffix('?') {
+            Some(word) => (word, true),
+            None => (word, false),
+        };
+        let kind = match word {
+            "int" => Kind::Int,
+            "text" => Kind::Text,
+            _ => Kind::Dec(word.strip_prefix("dec").ok_or("kind")?.parse()?),
+        };
+        columns.push(Column { kind, nullable });
+    }
+    Ok(columns)
+}
+
+/// The units of a decimal number with at most so many digits behind its point.
+fn read_units(field: &[u8], places: u8) -> Outcome<i64> {
+    let (negative, digits) = match field {
+        [b'-', digits @ ..] => (true, digits),
+        [b'+', digits @ ..] => (false, digits),
+        digits => (false, digits),
+    };
+    let (mut size, mut behind, mut point, mut some) = (0i128, 0, false, false);
+    for byte in digits {
+        match byte {
+            b'.' if !point => point = true,
+            b'0'..=b'9' => {
+                size = size * 10 + i128::from(byte - b'0');
+                if size > 1 << 70 {
+                    return Err("number out of range".into());
+                }
+                behind += u8::from(point);
+                some = true;
+            }
+            _ => return Err("not a number".into()),
+        }
+    }
+    if !some || behind > places {
+        return Err("not a number of these places".into());
+    }
+    for _ in behind..places {
+        size *= 10;
+    }
+    Ok(i64::try_from(if negative { -size } else { size })?)
+}
+
+fn read_field(field: &[u8], column: Column) -> Outcome<Lent<'_>> {
+    if field.is_empty() && column.nullable {
+        return Ok(Lent::Null);
+    }
+    match column.kind {
+        Kind::Int => Ok(Lent::Int(std::str::from_utf8(field)?.parse()?)),
+        Kind::Dec(places) => Ok(Lent::Dec(read_units(field, places)?)),
+        Kind::Text if field.len() > 4096 => Err("text too long".into()),
+        Kind::Text => Ok(Lent::Text(std::str::from_utf8(field)?)),
+    }
+}
+
+/// Calls `take` with each record behind the header.
+fn each_record(bytes: &[u8], columns: &[Column], mut take: impl FnMut(&csv::ByteRecord) -> Outcome<()>) -> Outcome<()> {
+    let mut reader = csv::ReaderBuilder::new().has_headers(false).flexible(true).from_reader(bytes);
+    let mut record = csv::ByteRecord::new();
+    let mut header = true;
+    while reader.read_byte_record(&mut record)? {
+        if record.len() != columns.len() {
+            return Err("another number of fields".into());
+        }
+        if !header {
+            take(&record)?;
+        }
+        header = false;
+    }
+    Ok(())
+}
+
+fn check_rows(bytes: &[u8], columns: &[Column]) -> Outcome<()> {
+    each_record(bytes, columns, |record| {
+        for (field, column) in record.iter().zip(columns) {
+            read_field(field, *column)?;
+        }
+        Ok(())
+    })
+}
+
+fn read_rows(bytes: &[u8], columns: &[Column]) -> Outcome<Vec<Vec<Value>>> {
+    let mut rows = Vec::new();
+    each_record(bytes, columns, |record| {
+        let mut row = Vec::with_capacity(columns.len());
+        for (field, column) in record.iter().zip(columns) {
+            row.push(match read_field(field, *column)? {
+                Lent::Null => Value::Null,
+                Lent::Int(number) => Value::Int(number),
+                Lent::Dec(units) => Value::Dec(units),
+                Lent::Text(text) => Value::Text(text.to_owned()),
+            });
+        }
+        rows.push(row);
+        Ok(())
+    })?;
+    Ok(rows)
+}
+
+fn encode(rows: &[Vec<Value>], behind: &mut Vec<u8>) {
+    behind.clear();
+    behind.extend_from_slice(&[0; 9]);
+    for value in rows.iter().flatten() {
+        match value {
+            Value::Null => behind.push(0),
+            Value::Int(number) | Value::Dec(number) => {
+                behind.push(1);
+                behind.extend_from_slice(&number.to_be_bytes());
+            }
+            Value::Text(text) => {
+                behind.push(1);
+                behind.extend_from_slice(&(text.len() as u16).to_be_bytes());
+                behind.extend_from_slice(text.as_bytes());
+            }
+        }
+    }
+    let len = (behind.len() - 9) as u32;
+    behind[1..5].copy_from_slice(&(rows.len() as u32).to_be_bytes());
+    behind[5..9].copy_from_slice(&len.to_be_bytes());
+    behind.push(0);
+}
 
 fn commit(file: &mut fs::File, gate: u64, behind: &[u8]) -> std::io::Result<()> {
     file.seek(SeekFrom::Start(gate + 1))?;
@@ -14,53 +173,11 @@ fn commit(file: &mut fs::File, gate: u64, behind: &[u8]) -> std::io::Result<()> 
     file.sync_all()
 }
 
-fn read_rows(bytes: &[u8]) -> Result<Vec<Vec<Option<i64>>>, Box<dyn Error>> {
-    let mut reader = csv::ReaderBuilder::new().has_headers(false).flexible(true).from_reader(bytes);
-    let mut record = csv::ByteRecord::new();
-    if !reader.read_byte_record(&mut record)? {
-        return Err("no header".into());
-    }
-    let columns = record.len();
-    let mut rows = Vec::new();
-    while reader.read_byte_record(&mut record)? {
-        if record.len() != columns {
-            return Err("another number of fields".into());
-        }
-        let mut row = Vec::with_capacity(columns);
-        for field in &record {
-            row.push(Some(std::str::from_utf8(field)?.parse()?));
-        }
-        rows.push(row);
-    }
-    Ok(rows)
-}
-
-fn encode(rows: &[Vec<Option<i64>>]) -> Vec<u8> {
-    let mut behind = vec![0; 9];
-    for row in rows {
-        for value in row {
-            match value {
-                None => behind.push(0),
-                Some(number) => {
-                    behind.push(1);
-                    behind.extend_from_slice(&number.to_be_bytes());
-                }
-            }
-        }
-    }
-    let len = (behind.len() - 9) as u32;
-    behind[1..5].copy_from_slice(&(rows.len() as u32).to_be_bytes());
-    behind[5..9].copy_from_slice(&len.to_be_bytes());
-    behind.push(0);
-    behind
-}
-
-fn main() -> Result<(), Box<dyn Error>> {
-    let dir = std::env::args().nth(1).ok_or("DIR")?;
-    let dir = Path::new(&dir);
+fn load(dir: &Path, name: &str, columns: &[Column]) -> Outcome<()> {
     let text = fs::read(dir.join("flow.toml"))?;
-    let bytes = fs::read(dir.join("nums.csv"))?;
-    let rows = read_rows(&bytes)?;
+    let bytes = fs::read(dir.join(name))?;
+    check_rows(&bytes, columns)?;
+    let rows = read_rows(&bytes, columns)?;
 
     let mut head = b"WHTABLE".to_vec();
     head.extend_from_slice(&1u32.to_be_bytes());
@@ -68,17 +185,123 @@ fn main() -> Result<(), Box<dyn Error>> {
     head.extend_from_slice(&text);
     head.push(0);
 
-    let mut file =
-        OpenOptions::new().read(true).write(true).create(true).open(dir.join("table.whl"))?;
+    let mut file = OpenOptions::new().read(true).write(true).create(true).open(dir.join("table.whl"))?;
     file.write_all(&[0])?;
     file.sync_all()?;
     commit(&mut file, 0, &head)?;
     let mut gate = head.len() as u64;
-    for block in rows.chunks(1000).map(encode) {
+    let mut block = Vec::new();
+    for chunk in rows.chunks(1000) {
+        encode(chunk, &mut block);
         commit(&mut file, gate, &block)?;
         gate += block.len() as u64;
     }
     commit(&mut file, gate, &[1, 0, 0, 0, 0, 0, 0, 0, 0, 0])?;
     println!("complete\nbefore 0\nadded {}", rows.len());
     Ok(())
+}
+
+/// The value at the front of the bytes, and the bytes behind it.
+fn value_at(bytes: &[u8], column: Column) -> Outcome<(Lent<'_>, &[u8])> {
+    match (bytes, column.kind) {
+        ([0, rest @ ..], _) if column.nullable => Ok((Lent::Null, rest)),
+        ([1, rest @ ..], Kind::Text) if rest.len() >= 2 => {
+            let (len, rest) = rest.split_at(2);
+            let len = usize::from(u16::from_be_bytes(len.try_into()?));
+            let text = rest.get(..len).ok_or("text")?;
+            Ok((Lent::Text(std::str::from_utf8(text)?), &rest[len..]))
+        }
+        ([1, rest @ ..], kind) if rest.len() >= 8 => {
+            let (number, rest) = rest.split_at(8);
+            let number = i64::from_be_bytes(number.try_into()?);
+            Ok((if matches!(kind, Kind::Int) { Lent::Int(number) } else { Lent::Dec(number) }, rest))
+        }
+        _ => Err("no value".into()),
+    }
+}
+
+/// Calls `take` with the rows' bytes of each block, and their count.
+fn each_block(file: &mut fs::File, mut take: impl FnMut(usize, &[u8]) -> Outcome<()>) -> Outcome<()> {
+    let mut head = [0; 16];
+    file.seek(SeekFrom::Start(0))?;
+    file.read_exact(&mut head)?;
+    let mut gate = 16 + u64::from(u32::from_be_bytes(head[12..].try_into()?));
+    let mut bytes = Vec::new();
+    loop {
+        let mut front = [0; 10];
+        file.seek(SeekFrom::Start(gate))?;
+        if file.read(&mut front)? < 10 || front[0] != 1 || front[1] == 1 {
+            return Ok(());
+        }
+        let count = u32::from_be_bytes(front[2..6].try_into()?) as usize;
+        let len = u32::from_be_bytes(front[6..].try_into()?) as usize;
+        bytes.resize(len, 0);
+        file.read_exact(&mut bytes)?;
+        take(count, &bytes)?;
+        gate += 10 + len as u64;
+    }
+}
+
+fn verify(file: &mut fs::File, columns: &[Column]) -> Outcome<()> {
+    each_block(file, |count, bytes| {
+        let mut rest = bytes;
+        for _ in 0..count {
+            for column in columns {
+                rest = value_at(rest, *column)?.1;
+            }
+        }
+        Ok(())
+    })
+}
+
+fn print_units(units: i64, places: u8, into: &mut Vec<u8>) -> Outcome<()> {
+    let (size, scale) = (units.unsigned_abs(), 10u64.pow(u32::from(places)));
+    let sign = if units < 0 { "-" } else { "" };
+    write!(into, "{sign}{}.{:0width$}", size / scale, size % scale, width = usize::from(places))?;
+    Ok(())
+}
+
+fn dump(dir: &Path, names: &[&str], columns: &[Column]) -> Outcome<()> {
+    let mut file = OpenOptions::new().read(true).open(dir.join("table.whl"))?;
+    verify(&mut file, columns)?;
+    let mut writer = csv::Writer::from_writer(std::io::stdout().lock());
+    writer.write_record(names)?;
+    let mut field = Vec::new();
+    each_block(&mut file, |count, bytes| {
+        let mut rest = bytes;
+        for _ in 0..count {
+            for column in columns {
+                let (value, others) = value_at(rest, *column)?;
+                rest = others;
+                field.clear();
+                match (value, column.kind) {
+                    (Lent::Null, _) => {}
+                    (Lent::Int(number), _) => write!(field, "{number}")?,
+                    (Lent::Dec(units), Kind::Dec(places)) => print_units(units, places, &mut field)?,
+                    (Lent::Dec(_), _) => return Err("kind".into()),
+                    (Lent::Text(text), _) => {
+                        writer.write_field(text)?;
+                        continue;
+                    }
+                }
+                writer.write_field(&field)?;
+            }
+            writer.write_record(None::<&[u8]>)?;
+        }
+        Ok(())
+    })?;
+    writer.flush()?;
+    Ok(())
+}
+
+fn main() -> Outcome<()> {
+    let words: Vec<String> = std::env::args().skip(1).collect();
+    let words: Vec<&str> = words.iter().map(String::as_str).collect();
+    match words.as_slice() {
+        ["load", dir, file, columns] => load(Path::new(dir), file, &columns_of(columns)?),
+        ["dump", dir, names, columns] => {
+            dump(Path::new(dir), &names.split(',').collect::<Vec<_>>(), &columns_of(columns)?)
+        }
+        _ => Err("usage: twin load DIR FILE COLUMNS, twin dump DIR NAMES COLUMNS".into()),
+    }
 }
