@@ -1,11 +1,10 @@
 // What a load reports.
-ghost use Rattle.std.specs.Prelude.{◌≡◌, [], ◌∷◌, ◌++◌, OnOk, OnErr, IfOk};
+ghost use Rattle.std.specs.Prelude.{◌≡◌, IfOk};
 ghost use Rattle.load_runner.specs.Reports.{skip_report, ended_report, skip_counts};
 
 use flow_types::NodeId;
 use std::alloc::Global;
-use std::marker::Model;
-use tuple_schema::Memory;
+use tuple_schema::{Listed, Memory};
 
 /// How many rows of a node passed the filter on its edge, and how many were dropped there.
 #[derive(Clone, Copy, Debug, PartialEq, Eq)]
@@ -15,46 +14,8 @@ pub struct EdgeCount {
     pub dropped: u64,
 }
 
-/// The edges that were filtered. A contract sees them as their list.
-#[derive(Debug, Drop)]
-pub struct ReportEdges {
-    items: Vec<EdgeCount>,
-}
-
-impl Model for ReportEdges {
-    ghost use Rattle.std.specs.Prelude.{List};
-    ghost use Rattle.load_runner.specs.declared.report.EdgeCount.{EdgeCount};
-
-    ghost Value = { List EdgeCount };
-
-    ghost view = { λ e. e.items.items };
-}
-
-impl ReportEdges {
-    /// The empty list.
-    pub fn new(alloc: Global) -> ReportEdges
-        ensures { result ≡ [] }
-    {
-        ReportEdges {
-            items: Vec::new(alloc),
-        }
-    }
-
-    /// Makes the edge the new last one.
-    pub fn push(&mut self, item: EdgeCount) -> Result<(), Memory>
-        ensures ok { OnOk result (self.new ≡ self.old ++ item ∷ []) }
-        ensures err { OnErr result (self.new ≡ self.old) }
-    {
-        self.items.push(item)?;
-        Ok(())
-    }
-
-    pub fn items(&self) -> &[EdgeCount]
-        ensures { result.now ≡ self.now }
-    {
-        &self.items
-    }
-}
+/// The edges that were filtered.
+pub type ReportEdges = Listed<EdgeCount>;
 
 /// How many rows stood before a load, how many it added, and what its filters did.
 #[derive(Debug, Drop)]

@@ -17,6 +17,3 @@ mod text;
 
 pub use dumping::dump;
 pub use fault::DumpFault;
-
-#[cfg(test)]
-mod tests;

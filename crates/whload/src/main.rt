@@ -1,39 +1,12 @@
-//! The program: `whload load DIR` loads a CSV file through the folder's flow into its table.
+//! The program: `whload load DIR` loads a CSV file through the folder's flow into its table, and `whload dump DIR` prints
+//! the table.
 //!
-//! Stands on all other crates; nothing stands on it. `main` makes the devices and calls `run`,
-//! which does all the rest. Read `specs/Verdict.antt` first: what there is to be done, or the first
-//! refusal; then `specs/Promises.antt`: how it is done, and what a run promises by its words. What a load
-//! promises stands in `load_runner`, in `specs/Loads.antt`.
-//!
-//! Promised, on `run`: no table is lost, of whatever flow; at every moment of a load a crash leaves the committed
-//! rows, and behind them only rows that were missing, in order; with Done all stand, the table is ended, and the
-//! report is written; each refusal comes where it is the first cause; a device's fault is answered only where that
-//! device failed. `run_again_after_a_crash`: a load that was stopped and then done leaves what one load would have.
-//! Not promised: anything of a real file, folder or terminal, and that memory is found.
+//! Stands on `commands`, whose `run` does all the work, and on `outside`, whose devices over the real folder, files and
+//! terminal it makes. Nothing is promised of those, and so nothing of `main`; `tests/` at the top run it.
 #![tactic(auto)]
 
-mod carry;
-mod dump;
-#[cfg(test)]
-mod dump_tests;
-mod find;
-mod flow;
-mod laws;
-mod load;
-mod reason;
-mod refusal;
-mod run;
-#[cfg(test)]
-mod stops;
-#[cfg(test)]
-mod tests;
-mod texts;
-mod words;
-
-pub use laws::run_again_after_a_crash;
+use commands::{Ending, Status, run};
 use outside::{FileDisk, FolderDepot, StdSink};
-pub use reason::{Ending, Reason, Status, Step};
-pub use run::run;
 use std::process::ExitCode;
 use std::rt::{Env, Files};
 use std::{env, fs, io};
