@@ -1,7 +1,7 @@
 //! What whload does at this stage, in plain Rust with the real `csv` crate and no proofs: `twin load DIR FILE COLUMNS`
-//! checks a CSV file, reads its rows, and writes one table file with the same writes and syncs; `twin dump DIR COLUMNS`
-//! checks that table and writes its rows as CSV. COLUMNS are kinds with commas between: `int`, `dec2`, `text`, and `?`
-//! behind one that may be empty.
+//! reads a CSV file once, checks and packs its rows, and writes one table file with the same writes and syncs; `twin dump
+//! DIR NAMES COLUMNS` checks that table and writes its rows as CSV. COLUMNS are kinds with commas between: `int`, `dec2`,
+//! `text`, and `?` behind one that may be empty.
 use std::error::Error;
 use std::fs::{self, OpenOptions};
 use std::io::{Read, Seek, SeekFrom, Write};
@@ -20,13 +20,6 @@ enum Kind {
 struct Column {
     kind: Kind,
     nullable: bool,
-}
-
-enum Value {
-    Null,
-    Int(i64),
-    Dec(i64),
-    Text(String),
 }
 
 /// A value that its bytes or its field lend.
@@ -114,53 +107,46 @@ fn each_record(bytes: &[u8], columns: &[Column], mut take: impl FnMut(&csv::Byte
     Ok(())
 }
 
-fn check_rows(bytes: &[u8], columns: &[Column]) -> Outcome<()> {
-    each_record(bytes, columns, |record| {
-        for (field, column) in record.iter().zip(columns) {
-            read_field(field, *column)?;
-        }
-        Ok(())
-    })
+/// Rows as a table has them, one after the other, and where each ends.
+struct Packed {
+    bytes: Vec<u8>,
+    ends: Vec<usize>,
 }
 
-fn read_rows(bytes: &[u8], columns: &[Column]) -> Outcome<Vec<Vec<Value>>> {
-    let mut rows = Vec::new();
-    each_record(bytes, columns, |record| {
-        let mut row = Vec::with_capacity(columns.len());
-        for (field, column) in record.iter().zip(columns) {
-            row.push(match read_field(field, *column)? {
-                Lent::Null => Value::Null,
-                Lent::Int(number) => Value::Int(number),
-                Lent::Dec(units) => Value::Dec(units),
-                Lent::Text(text) => Value::Text(text.to_owned()),
-            });
+fn pack(value: Lent<'_>, into: &mut Vec<u8>) {
+    match value {
+        Lent::Null => into.push(0),
+        Lent::Int(number) | Lent::Dec(number) => {
+            into.push(1);
+            into.extend_from_slice(&number.to_be_bytes());
         }
-        rows.push(row);
+        Lent::Text(text) => {
+            into.push(1);
+            into.extend_from_slice(&(text.len() as u16).to_be_bytes());
+            into.extend_from_slice(text.as_bytes());
+        }
+    }
+}
+
+fn read_rows(bytes: &[u8], columns: &[Column]) -> Outcome<Packed> {
+    let mut rows = Packed { bytes: Vec::new(), ends: Vec::new() };
+    each_record(bytes, columns, |record| {
+        for (field, column) in record.iter().zip(columns) {
+            pack(read_field(field, *column)?, &mut rows.bytes);
+        }
+        rows.ends.push(rows.bytes.len());
         Ok(())
     })?;
     Ok(rows)
 }
 
-fn encode(rows: &[Vec<Value>], behind: &mut Vec<u8>) {
+/// What stands behind a block's gate: its head, its rows, and the next gate.
+fn block_of(count: usize, rows: &[u8], behind: &mut Vec<u8>) {
     behind.clear();
-    behind.extend_from_slice(&[0; 9]);
-    for value in rows.iter().flatten() {
-        match value {
-            Value::Null => behind.push(0),
-            Value::Int(number) | Value::Dec(number) => {
-                behind.push(1);
-                behind.extend_from_slice(&number.to_be_bytes());
-            }
-            Value::Text(text) => {
-                behind.push(1);
-                behind.extend_from_slice(&(text.len() as u16).to_be_bytes());
-                behind.extend_from_slice(text.as_bytes());
-            }
-        }
-    }
-    let len = (behind.len() - 9) as u32;
-    behind[1..5].copy_from_slice(&(rows.len() as u32).to_be_bytes());
-    behind[5..9].copy_from_slice(&len.to_be_bytes());
+    behind.push(0);
+    behind.extend_from_slice(&(count as u32).to_be_bytes());
+    behind.extend_from_slice(&(rows.len() as u32).to_be_bytes());
+    behind.extend_from_slice(rows);
     behind.push(0);
 }
 
@@ -176,8 +162,8 @@ fn commit(file: &mut fs::File, gate: u64, behind: &[u8]) -> std::io::Result<()> 
 fn load(dir: &Path, name: &str, columns: &[Column]) -> Outcome<()> {
     let text = fs::read(dir.join("flow.toml"))?;
     let bytes = fs::read(dir.join(name))?;
-    check_rows(&bytes, columns)?;
     let rows = read_rows(&bytes, columns)?;
+    drop(bytes);
 
     let mut head = b"WHTABLE".to_vec();
     head.extend_from_slice(&1u32.to_be_bytes());
@@ -191,13 +177,16 @@ fn load(dir: &Path, name: &str, columns: &[Column]) -> Outcome<()> {
     commit(&mut file, 0, &head)?;
     let mut gate = head.len() as u64;
     let mut block = Vec::new();
-    for chunk in rows.chunks(1000) {
-        encode(chunk, &mut block);
+    let mut start = 0;
+    for ends in rows.ends.chunks(1000) {
+        let end = ends[ends.len() - 1];
+        block_of(ends.len(), &rows.bytes[start..end], &mut block);
         commit(&mut file, gate, &block)?;
         gate += block.len() as u64;
+        start = end;
     }
     commit(&mut file, gate, &[1, 0, 0, 0, 0, 0, 0, 0, 0, 0])?;
-    println!("complete\nbefore 0\nadded {}", rows.len());
+    println!("complete\nbefore 0\nadded {}", rows.ends.len());
     Ok(())
 }
 
