@@ -42,7 +42,6 @@ rows_in columns (suc n) bytes = row_and (rows_in columns n) (row_at columns byte
 -- the buffer holds the rows one after the other, with the places of each row and those of each row's values
 pub record IsPacked (columns : List Column) (rows : List (List Value)) (count : ℕ)
     (bytes starts inner : List ℕ) : Type 0 where
-  pub few : length rows ≤ 4096
   pub counted : count ≡ length rows
   pub each : All (IsRowOf columns) rows
   pub bytes_are : bytes ≡ rows_bytes rows
