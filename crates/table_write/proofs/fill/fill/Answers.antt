@@ -33,7 +33,7 @@ loop-count-preserved c =
       within = omega arith;
       block = c.add.ensures ∙ ap (λ (bytes : List ℕ). with_row c.loop-count.block bytes) c.bytes.ensures.bytes
           ∙ ap (λ (b : Stored). with_row b (row_bytes row)) c.loop-count.invariant.block ∙ sym (stored_more rows count row below is);
-      of_columns = subst (All (IsRowOf c.args.rows.now.columns)) (sym taken) (All-push (IsRowOf c.args.rows.now.columns) front row c.loop-count.invariant.of_columns ?);
+      of_columns = subst (All (IsRowOf c.args.rows.now.columns)) (sym taken) (All-push (IsRowOf c.args.rows.now.columns) front row c.loop-count.invariant.of_columns c.row.ensures.row_of);
       rest = c.loop-count.invariant.rest ∙ ap (cut_on batch front) (row_dropped rows count row below is) ∙ cut_more batch front (drop (count + 1) rows) row open_yet
           ∙ ap (λ rs. cut_on batch rs (drop (count + 1) rows)) (sym taken);
     }
