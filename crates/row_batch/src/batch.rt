@@ -13,7 +13,8 @@ use tuple_schema::{Fields, Memory, Schema};
 /// The most rows that `Rows::fill` brings. A batch may have more.
 pub const MAX_ROWS: usize = 4096;
 
-/// Rows of a schema, as many as memory holds, in one buffer. A contract sees it as the schema's columns and a list of tuples.
+/// Rows of a schema, as many as memory holds, in one buffer. A contract sees it as the schema's columns and a list of
+/// tuples.
 #[derive(Drop)]
 pub struct Batch {
     pub(crate) schema: Schema,

@@ -1,4 +1,5 @@
-//! Rows in batches, as many as memory holds: one buffer of the table's own row bytes, and views that read it in place.
+//! Rows in batches: one buffer of the table's own row bytes, for as many rows as memory holds, and views that read it
+//! in place.
 //!
 //! Stands on `row_codec`, whose row bytes a batch holds, and on `tuple_schema`. `extractors` gives a source's
 //! rows in it. Read `specs/Packing.antt` first: a contract sees a batch as its columns and a list of tuples,
