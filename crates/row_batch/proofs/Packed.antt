@@ -18,7 +18,7 @@ use Rattle.row_batch.proofs.Places.{IsBetween, AreEven, between, even_between, l
 
 -- ---- the view
 
-rows_again_before : (cs : List Column) (rows : List (List Value)) (rest : List ℕ) → All (IsRowOf cs) rows
+pub rows_again_before : (cs : List Column) (rows : List (List Value)) (rest : List ℕ) → All (IsRowOf cs) rows
     → rows_in cs (length rows) (rows_bytes rows ++ rest) ≡ rows
 unfolding rows_in
 rows_again_before cs [] rest each = refl
@@ -31,7 +31,7 @@ rows_again_before cs (r ∷ rs) rest each =
     ∙ ap (λ others. r ∷ others) (rows_again_before cs rs rest (All-tail (IsRowOf cs) r rs each))
 
 -- what is packed is seen as its rows
-rows_again : (cs : List Column) (rows : List (List Value)) (count : ℕ) (bytes starts inner : List ℕ)
+pub rows_again : (cs : List Column) (rows : List (List Value)) (count : ℕ) (bytes starts inner : List ℕ)
     → IsPacked cs rows count bytes starts inner → rows_in cs count bytes ≡ rows
 rows_again cs rows count bytes starts inner is =
     ap (λ n. rows_in cs n bytes) is.counted
@@ -125,11 +125,11 @@ counted_below cs rows count bytes starts inner is =
     let counted : count ≡ length rows = is.counted in
     rw is.starts_are (omega (arith, length-places row_bytes rows))
 
-flat_map_push : (form : List Value → List ℕ) (xs : List (List Value)) (x : List Value)
+pub flat_map_push : {X : Type 0} (form : X → List ℕ) (xs : List X) (x : X)
     → flat_map form (xs ++ x ∷ []) ≡ flat_map form xs ++ form x
 flat_map_push form xs x = flat_map-append form xs (x ∷ []) ∙ ap (λ bs. flat_map form xs ++ bs) (append-nil (form x))
 
-one_more : (cs : List Column) (rows : List (List Value)) (count : ℕ) (bytes starts inner : List ℕ) (row : List Value)
+pub one_more : (cs : List Column) (rows : List (List Value)) (count : ℕ) (bytes starts inner : List ℕ) (row : List Value)
     → IsPacked cs rows count bytes starts inner → IsRowOf cs row
     → IsPacked cs (rows ++ row ∷ []) (count + 1) (bytes ++ row_bytes row)
     (starts ++ (length bytes + length (row_bytes row)) ∷ []) (inner ++ value_places row)

@@ -13,17 +13,18 @@ use tuple_schema::{Fields, Memory, Schema};
 /// The most rows that `Rows::fill` brings. A batch may have more.
 pub const MAX_ROWS: usize = 4096;
 
-/// Rows of a schema, as many as memory holds, in one buffer. A contract sees it as the schema's columns and a list of tuples.
+/// Rows of a schema, as many as memory holds, in one buffer. A contract sees it as the schema's columns and a list of
+/// tuples.
 #[derive(Drop)]
 pub struct Batch {
-    schema: Schema,
-    count: usize,
+    pub(crate) schema: Schema,
+    pub(crate) count: usize,
     // The rows as a table has them, one after the other.
-    bytes: Vec<u8>,
+    pub(crate) bytes: Vec<u8>,
     // Where each row begins, and where the last one ends.
-    starts: Vec<usize>,
+    pub(crate) starts: Vec<usize>,
     // For each row where its values begin in it, and where the last one ends: columns + 1 places.
-    places: Vec<u32>,
+    pub(crate) places: Vec<u32>,
 }
 
 impl Model for Batch {
