@@ -1,3 +1,4 @@
 pub mod Places
 pub mod Packed
 pub mod Fields
+pub mod Building

@@ -1,11 +1,12 @@
 // Rows at the end of a buffer, with their places.
-ghost use Rattle.std.specs.Prelude.{◌≡◌, ◌≤◌, ◌+◌, ◌∷◌, ◌++◌, [], take, length, All, OnOk, OnErr, vec_len};
-ghost use Rattle.row_codec.specs.Rows.{row_bytes};
+ghost use Rattle.std.specs.Prelude.{◌≡◌, ◌≤◌, ◌+◌, ◌-◌, ◌∷◌, ◌++◌, [], take, length, All, OnOk, OnErr, vec_len};
+ghost use Rattle.tuple_schema.specs.Tuples.{lent, IsShort};
+ghost use Rattle.row_codec.specs.Rows.{value_bytes, row_bytes};
 ghost use Rattle.row_codec.specs.Decoding.{IsEncodable};
 ghost use Rattle.row_batch.specs.Packing.{value_places};
 
 use row_codec::encode_field;
-use tuple_schema::{Fields, Memory};
+use tuple_schema::{FieldRef, Fields, Memory};
 
 /// Appends a row's bytes, the place behind it, and the places of its values. At Err some of its bytes
 /// and places may stand there.
@@ -50,8 +51,38 @@ fn append_values<F: Fields>(
     let start = bytes.len();
     places.push(0)?;
     for i in 0..width {
-        encode_field(row.field(i), bytes)?;
-        places.push((bytes.len() - start) as u32)?;
+        append_value(row.field(i), start, bytes, places)?;
     }
     Ok(())
+}
+
+/// Appends the bytes of a value of the row that starts there, and the place behind it in the row. At Err the buffers
+/// are as they were.
+#[inline]
+pub(crate) fn append_value(
+    value: FieldRef<'_>,
+    start: usize,
+    bytes: &mut Vec<u8>,
+    places: &mut Vec<u32>,
+) -> Result<(), Memory>
+    requires short { IsShort (lent value) }
+    requires behind { start ≤ vec_len bytes.old }
+    requires near { vec_len bytes.old ≤ start + 262336 }
+    ensures bytes { OnOk result (bytes.new.items ≡ bytes.old.items ++ value_bytes (lent value.entry)) }
+    ensures place { OnOk result (places.new.items
+        ≡ places.old.items ++ (vec_len bytes.old + length (value_bytes (lent value.entry)) - start) ∷ []) }
+    ensures few { length (value_bytes (lent value.entry)) ≤ 4099 }
+    ensures encodable { IsEncodable (lent value.entry) }
+    ensures bytes_kept { OnErr result (bytes.new.items ≡ bytes.old.items) }
+    ensures places_kept { OnErr result (places.new.items ≡ places.old.items) }
+{
+    let before = bytes.len();
+    encode_field(value, bytes)?;
+    match places.push((bytes.len() - start) as u32) {
+        Ok(()) => Ok(()),
+        Err(_) => {
+            bytes.truncate(before);
+            Err(Memory)
+        }
+    }
 }
