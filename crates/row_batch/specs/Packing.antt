@@ -10,7 +10,7 @@ use Rattle.tuple_schema.specs.declared.schema.ColumnKind.TheVariants as kind
 use Rattle.tuple_schema.specs.Schemas.{is_of}
 use Rattle.row_codec.specs.declared.decode.RowFault.{RowFault}
 use Rattle.row_codec.specs.Rows.{value_bytes, row_bytes, rows_bytes}
-use Rattle.row_codec.specs.Decoding.{row_at, IsRowOf, IsEncodable}
+use Rattle.row_codec.specs.Decoding.{row_at, BeginsWithRow, IsRowOf, IsEncodable}
 
 -- what a batch is seen as
 pub record BatchOf : Type 0 where
@@ -85,6 +85,14 @@ pub record IsBuilt (columns : List Column) (rows : List (List Value)) (begun : L
   pub begun_is : IsRowOf (take size columns) begun
   pub bytes_are : bytes ≡ rows_bytes rows ++ row_bytes begun
   pub inner_are : inner ≡ flat_map value_places rows ++ value_places begun
+
+-- a row of the columns stands at the front of the bytes and takes so many of them, and the places of its values came
+-- behind the old ones
+pub record TakesPlaces (columns : List Column) (front : List ℕ) (len : ℕ) (old new : List ℕ) : Type 0 where
+  pub row : List Value
+  pub begins : BeginsWithRow columns front len row
+  pub encodable : All IsEncodable row
+  pub placed : new ≡ old ++ value_places row
 
 -- the number or text behind the first byte
 abbrev pub content_held : ColumnKind → List ℕ → Value

@@ -1,14 +1,17 @@
 // Batches of rows in one buffer.
-ghost use Rattle.std.specs.Prelude.{◌≡◌, ◌<◌, ◌≤◌, ◌*◌, ◌∷◌, ◌++◌, [], length, IfOk, OnOk, OnErr, Some, slice_get, All};
-ghost use Rattle.tuple_schema.specs.Schemas.{Fits, IsSchema};
+ghost use Rattle.std.specs.Prelude.{◌≡◌, ◌<◌, ◌∷◌, ◌++◌, List, [], length, All, IfOk, OnOk, OnErr, Err, Some, slice_get};
+ghost use Rattle.tuple_schema.specs.Schemas.{Fits};
+ghost use Rattle.tuple_schema.specs.Stops.{IfFault};
+ghost use Rattle.tuple_schema.specs.declared.value.Value.{Value as Item};
 ghost use Rattle.row_codec.specs.Rows.{rows_bytes};
-ghost use Rattle.row_codec.specs.Decoding.{IsRowOf};
+ghost use Rattle.row_codec.specs.Decoding.{row_at, IsRowOf, BeginsWithRow};
 
 use crate::RowView;
-use crate::packing::append_row;
+use crate::packing::{append_front, append_row};
+use row_codec::RowFault;
 use std::alloc::Global;
 use std::marker::Model;
-use tuple_schema::{Fields, Memory, Schema};
+use tuple_schema::{Fields, Memory, Schema, Stop};
 
 /// The most rows that `Rows::fill` brings. A batch may have more.
 pub const MAX_ROWS: usize = 4096;
@@ -157,6 +160,36 @@ impl Batch {
                 self.bytes.truncate(bytes);
                 self.places.truncate(places);
                 Err(Memory)
+            }
+        }
+    }
+
+    /// Makes the row at the front of the bytes the new last one, and answers how many bytes it has. Any bytes may
+    /// follow. The row's bytes are copied as they are.
+    pub fn push_bytes(&mut self, bytes: &[u8]) -> Result<usize, Stop<RowFault>>
+        ensures row { IfOk result (λ len. (row : List Item) × BeginsWithRow self.old.columns bytes.now len row
+            × (self.new.rows ≡ self.old.rows ++ row ∷ [])) }
+        ensures fault { IfFault result (λ fault. row_at self.old.columns bytes.now ≡ Err fault) }
+        ensures err { OnErr result (self.new.rows ≡ self.old.rows) }
+        ensures columns { self.new.columns ≡ self.old.columns }
+    {
+        let before = self.bytes.len();
+        let places = self.places.len();
+        match append_front(
+            bytes,
+            self.schema.columns(),
+            &mut self.bytes,
+            &mut self.starts,
+            &mut self.places,
+        ) {
+            Ok(len) => {
+                self.count += 1;
+                Ok(len)
+            }
+            Err(stop) => {
+                self.bytes.truncate(before);
+                self.places.truncate(places);
+                Err(stop)
             }
         }
     }

@@ -35,9 +35,10 @@ impl Model for BatchBuilder {
     ghost Value = { BuilderOf };
 
     ghost view = { λ b. record {
-        columns = b.schema;
-        rows = rows_in b.schema b.count b.bytes.items;
-        begun = row_in (take b.begun b.schema) (drop b.start b.bytes.items) } };
+      columns = b.schema;
+      rows = rows_in b.schema b.count b.bytes.items;
+      begun = row_in (take b.begun b.schema) (drop b.start b.bytes.items);
+    } };
 
     ghost invariant = { λ b. IsBuilt b.schema (rows_in b.schema b.count b.bytes.items)
         (row_in (take b.begun b.schema) (drop b.start b.bytes.items))

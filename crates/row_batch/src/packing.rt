@@ -1,12 +1,13 @@
 // Rows at the end of a buffer, with their places.
-ghost use Rattle.std.specs.Prelude.{◌≡◌, ◌≤◌, ◌+◌, ◌-◌, ◌∷◌, ◌++◌, [], take, length, All, OnOk, OnErr, vec_len};
+ghost use Rattle.std.specs.Prelude.{◌≡◌, ◌≤◌, ◌+◌, ◌-◌, ◌∷◌, ◌++◌, [], take, length, All, IfOk, OnOk, OnErr, Err, vec_len};
 ghost use Rattle.tuple_schema.specs.Tuples.{lent, IsShort};
 ghost use Rattle.row_codec.specs.Rows.{value_bytes, row_bytes};
-ghost use Rattle.row_codec.specs.Decoding.{IsEncodable};
-ghost use Rattle.row_batch.specs.Packing.{value_places};
+ghost use Rattle.tuple_schema.specs.Stops.{IfFault};
+ghost use Rattle.row_codec.specs.Decoding.{row_at, IsEncodable};
+ghost use Rattle.row_batch.specs.Packing.{value_places, TakesPlaces};
 
-use row_codec::encode_field;
-use tuple_schema::{FieldRef, Fields, Memory};
+use row_codec::{RowFault, encode_field, skip_value};
+use tuple_schema::{Column, FieldRef, Fields, Memory, Stop};
 
 /// Appends a row's bytes, the place behind it, and the places of its values. At Err some of its bytes
 /// and places may stand there.
@@ -85,4 +86,54 @@ pub(crate) fn append_value(
             Err(Memory)
         }
     }
+}
+
+/// Appends the row at the front of the bytes, the place behind it, and the places of its values, and answers how many
+/// bytes it has. At Err some of its bytes and places may stand there.
+pub(crate) fn append_front(
+    front: &[u8],
+    columns: &[Column],
+    bytes: &mut Vec<u8>,
+    starts: &mut Vec<usize>,
+    places: &mut Vec<u32>,
+) -> Result<usize, Stop<RowFault>>
+    requires few { length columns.now ≤ 64 }
+    ensures bytes { IfOk result (λ len. bytes.new.items ≡ bytes.old.items ++ take len front.now) }
+    ensures starts { IfOk result (λ len. starts.new.items ≡ starts.old.items ++ (vec_len bytes.old + len) ∷ []) }
+    ensures row { IfOk result (λ len.
+        TakesPlaces columns.now front.now len places.old.items places.new.items) }
+    ensures fault { IfFault result (λ fault. row_at columns.now front.now ≡ Err fault) }
+    ensures bytes_kept { OnErr result (take (vec_len bytes.old) bytes.new.items ≡ bytes.old.items) }
+    ensures starts_kept { OnErr result (starts.new.items ≡ starts.old.items) }
+    ensures places_kept { OnErr result (take (vec_len places.old) places.new.items ≡ places.old.items) }
+{
+    let len = append_places(front, columns, places)?;
+    bytes.extend_from_slice(&front[..len])?;
+    starts.push(bytes.len())?;
+    Ok(len)
+}
+
+// Appends the places of the values of the row at the front of the bytes, and answers how many bytes it has. At Err
+// some of them may stand there.
+fn append_places(
+    front: &[u8],
+    columns: &[Column],
+    places: &mut Vec<u32>,
+) -> Result<usize, Stop<RowFault>>
+    requires few { length columns.now ≤ 64 }
+    ensures row { IfOk result (λ len.
+        TakesPlaces columns.now front.now len places.old.items places.new.items) }
+    ensures fault { IfFault result (λ fault. row_at columns.now front.now ≡ Err fault) }
+    ensures places_kept { OnErr result (take (vec_len places.old) places.new.items ≡ places.old.items) }
+{
+    let mut len = 0;
+    places.push(0)?;
+    for column in columns {
+        match skip_value(&front[len..], column) {
+            Ok(size) => len += size,
+            Err(fault) => return Err(Stop::Fault(fault)),
+        }
+        places.push(len as u32)?;
+    }
+    Ok(len)
 }
