@@ -20,7 +20,6 @@ pub fn whole(alloc: Global, flow: &Flow, mut sources: Vec<Batch>) -> Result<Batc
     ensures whole { IfOk result
         (λ b. whole_of flow.now.nodes (by_number (map (λ l. l.rows) sources.items)) ≡ Some b.rows) }
     ensures columns { IfOk result (λ b. IfSome (root_in flow.now.nodes) (λ root. b.columns ≡ root.schema)) }
-    ensures fit { IfOk result (λ b. All (Fits b.columns) b.rows) }
 {
     tree_laws();
     let mut inputs = Vec::new(alloc);
@@ -41,11 +40,7 @@ pub fn whole(alloc: Global, flow: &Flow, mut sources: Vec<Batch>) -> Result<Batc
         lists.push(rows)?;
     }
     match lists.pop() {
-        Some(rows) => {
-            // It says that the rows fit.
-            let _count = rows.len();
-            Ok(rows)
-        }
+        Some(rows) => Ok(rows),
         None => unreachable!(),
     }
 }
