@@ -77,12 +77,7 @@ fn read_rows<K: Disk>(
 }
 
 // Takes the bytes from that place on into an empty batch, as exactly so many rows.
-fn take_rows(
-    bytes: &[u8],
-    count: u32,
-    place: u64,
-    into: &mut Batch,
-) -> Result<(), Stop<TableFault>>
+fn take_rows(bytes: &[u8], count: u32, place: u64, into: &mut Batch) -> Result<(), Stop<TableFault>>
     requires place { place + length bytes.now < 2 ^ 64 }
     requires empty { into.old.rows ≡ [] }
     ensures rows { TakesRows result into.new.rows (rows_at into.old.columns count place bytes.now) }
