@@ -1,6 +1,5 @@
 // The meaning of a flow.
-ghost use Rattle.std.specs.Prelude.{◌≡◌, ◌-◌, [], Some, All, IfOk, OnOk, IfSome, get_or, map, slice_set, length};
-ghost use Rattle.tuple_schema.specs.Schemas.{Fits};
+ghost use Rattle.std.specs.Prelude.{◌≡◌, ◌-◌, [], Some, IfOk, OnOk, IfSome, get_or, map, slice_set, length};
 ghost use Rattle.flow_types.specs.Flows.{root_in};
 ghost use Rattle.kind_laws.specs.Wholes.{by_number, whole_of};
 ghost use Rattle.kind_laws.specs.Laws.{SourcesHaveColumns};
