@@ -119,7 +119,7 @@ tested_then : (v : Value) (others : Result (List Value) RecordFault)
 tested_then v (Ok vs) = refl
 tested_then v (Err f) = refl
 
-values_here : (cs : List Column) (fs : List (List ℕ)) (i : ℕ) (c : Column) (f : List ℕ) → i < length cs
+pub values_here : (cs : List Column) (fs : List (List ℕ)) (i : ℕ) (c : Column) (f : List ℕ) → i < length cs
     → i < length fs → c ≡ get_or cs i c → field_at fs i ≡ Some f
     → values_from (i + 1) (drop i cs) (drop i fs) ≡ (in_column (i + 1) (field_value c f) >>= λ v. values_from (i + 1 + 1) (drop (i + 1) cs) (drop (i + 1) fs) >>= λ vs. Ok (v ∷ vs))
 unfolding values_from
@@ -170,7 +170,7 @@ rows_then : (tuple : List Value) (others : Result (List (List Value)) CsvFault)
 rows_then tuple (Ok ts) = refl
 rows_then tuple (Err f) = refl
 
-rows_here : (cs : List Column) (r : List (List ℕ)) (rs : List (List (List ℕ))) (row : ℕ)
+pub rows_here : (cs : List Column) (r : List (List ℕ)) (rs : List (List (List ℕ))) (row : ℕ)
     (reading : Result (List Value) RecordFault)
     → tuple_of cs r ≡ reading
     → tuples_from row cs (r ∷ rs) ≡ (in_row row reading >>= λ t. tuples_from (row + 1) cs rs >>= λ ts. Ok (t ∷ ts))

@@ -1,8 +1,6 @@
--- The fault of a content is never that of a depot, and the fronts of a tuple.
-use Rattle.std.proofs.Common.{◌≡◌, ◌<◌, ◌+◌, ℕ, List, [], ◌∷◌, ◌++◌, length, take, Some, ◌∙◌, Bool, true, false, ◌&&◌, ◌==◌, Result, Ok, Err, ap}
-use Rattle.std.specs.Prelude.{if◌then◌else◌, slice_get}
-use Rattle.std.proofs.lemmas.List.{take_more}
-use Rattle.std.proofs.lemmas.Option.{get_or_from_slice_get}
+-- The fault of a content is never that of a depot.
+use Rattle.std.proofs.Common.{◌≡◌, ◌+◌, ℕ, List, [], ◌∷◌, length, Bool, true, false, ◌&&◌, ◌==◌, Result, Ok, Err, ap}
+use Rattle.std.specs.Prelude.{if◌then◌else◌}
 use Rattle.tuple_schema.specs.declared.value.Value.{Value}
 use Rattle.tuple_schema.specs.declared.schema.Column.{Column}
 use Rattle.tuple_schema.specs.Stops.{◌>>=◌}
@@ -55,9 +53,3 @@ under_own any cs (header ∷ records) e =
 pub content_own : (any : Bool) (cs : List Column) (file : List ℕ) → IsOwn (csv_content any cs file)
 unfolding csv_content
 content_own any cs file e = under_own any cs (csv_records (without_mark file)) e
-
--- a front with the next value
-pub front_more : (row : List Value) (i : ℕ) (v : Value) → i < length row → slice_get row i ≡ Some v
-    → take (i + 1) row ≡ take i row ++ v ∷ []
-front_more row i v below is =
-    take_more row i v below ∙ ap (λ y. take i row ++ y ∷ []) (get_or_from_slice_get row i v v is)

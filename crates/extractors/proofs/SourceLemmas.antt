@@ -272,35 +272,31 @@ none_good cs records none = ap (λ rs. filter_map (λ fields. result_ok (tuple_o
 
 -- ---- the whole file
 
-pub no_records : (any : Bool) (cs : List Column) (file : List ℕ) → csv_records (without_mark file) ≡ []
-    → tested (csv_content any cs file) ≡ Err (fault.BadHeader 1)
-unfolding csv_content under_header
-no_records any cs file none = ap (λ rs. tested (under_header any cs rs)) none
-
-under_ok : (any : Bool) (cs : List Column) (header : List (List ℕ)) (records : List (List (List ℕ)))
-    → Ok tt ≡ header_of any cs header → under_header any cs (header ∷ records) ≡ tuples_from 1 cs records
+pub under_none : (any : Bool) (cs : List Column) (records : List (List (List ℕ))) → records ≡ []
+    → under_header any cs records ≡ Err (fault.BadHeader 1)
 unfolding under_header
-under_ok any cs header records named = ap (λ r. r >>= λ x. tuples_from 1 cs records) (sym named)
+under_none any cs records none = ap (under_header any cs) none
 
-under_err : (any : Bool) (cs : List Column) (header : List (List ℕ)) (records : List (List (List ℕ))) (f : CsvFault)
-    → Err f ≡ header_of any cs header → under_header any cs (header ∷ records) ≡ Err f
+pub under_ok : (any : Bool) (cs : List Column) (before after : List (List (List ℕ))) (header : List (List ℕ))
+    → before ≡ header ∷ after → Ok tt ≡ header_of any cs header → under_header any cs before ≡ tuples_from 1 cs after
 unfolding under_header
-under_err any cs header records f wrong = ap (λ r. r >>= λ x. tuples_from 1 cs records) (sym wrong)
+under_ok any cs before after header next named =
+    ap (under_header any cs) next ∙ ap (λ r. r >>= λ x. tuples_from 1 cs after) (sym named)
 
-pub header_ok : (any : Bool) (cs : List Column) (file : List ℕ) (header : List (List ℕ))
-    (records : List (List (List ℕ)))
-    → csv_records (without_mark file) ≡ header ∷ records → Ok tt ≡ header_of any cs header
-    → csv_content any cs file ≡ tuples_from 1 cs records
-unfolding csv_content
-header_ok any cs file header records is named = ap (under_header any cs) is ∙ under_ok any cs header records named
+pub under_err : (any : Bool) (cs : List Column) (before after : List (List (List ℕ))) (header : List (List ℕ))
+    (f : CsvFault)
+    → before ≡ header ∷ after → Err f ≡ header_of any cs header → under_header any cs before ≡ Err f
+unfolding under_header
+under_err any cs before after header f next wrong =
+    ap (under_header any cs) next ∙ ap (λ r. r >>= λ x. tuples_from 1 cs after) (sym wrong)
 
-pub header_err : (any : Bool) (cs : List Column) (file : List ℕ) (header : List (List ℕ))
-    (records : List (List (List ℕ))) (f : CsvFault)
-    → csv_records (without_mark file) ≡ header ∷ records → Err f ≡ header_of any cs header
-    → tested (csv_content any cs file) ≡ Err f
+-- what a file has under its header is its content
+pub content_is : (any : Bool) (cs : List Column) (file : List ℕ) (records : List (List (List ℕ)))
+    (reading : Result (List (List Value)) CsvFault)
+    → records ≡ csv_records (without_mark file) → under_header any cs records ≡ reading
+    → csv_content any cs file ≡ reading
 unfolding csv_content
-header_err any cs file header records f is wrong =
-    ap tested (ap (under_header any cs) is ∙ under_err any cs header records f wrong)
+content_is any cs file records reading all is = ap (under_header any cs) (sym all) ∙ is
 
 -- behind the header
 behind_header : (before after : List (List (List ℕ))) (found : Bool) (fields : List (List ℕ))
@@ -329,6 +325,14 @@ good_fit cs (r ∷ rs) good =
 pub file_fits : (cs : List Column) (file : List ℕ) → IsChecked cs file → All (Fits cs) (file_rows cs file)
 unfolding file_rows
 file_fits cs file checked = good_fit cs (body_records file) checked.good
+
+-- the rows of a content fit the columns
+pub content_fits : (any : Bool) (cs : List Column) (file : List ℕ) (rows : List (List Value))
+    → csv_content any cs file ≡ Ok rows → All (Fits cs) rows
+content_fits any cs file rows is =
+    let has = has_content any cs file (ap tested is) in
+    let same : file_rows cs file ≡ rows = let twice = sym has.content ∙ is in cc in
+    subst (All (Fits cs)) same (file_fits cs file has.checked)
 
 -- the same of a source that is seen so
 pub source_fits : (cs : List Column) (file : List ℕ) (seen : SourceOf) → IsChecked cs file

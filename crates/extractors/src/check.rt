@@ -1,10 +1,10 @@
 // Whether a CSV file has a content, with no tuple and no text made.
-ghost use Rattle.std.specs.Prelude.{◌≡◌, ◌<◌, ◌≤◌, ◌^◌, ◌||◌, bytes_eq, length};
+ghost use Rattle.std.specs.Prelude.{◌≡◌, ◌<◌, ◌≤◌, ◌^◌, ◌||◌, bytes_eq, length, OnOk, Err};
 ghost use Rattle.csv.specs.Records.{fields_of};
 ghost use Rattle.tuple_schema.specs.Schemas.{IsSchema};
-ghost use Rattle.tuple_schema.specs.Stops.{Gives};
+ghost use Rattle.tuple_schema.specs.Stops.{Gives, IfFault};
 ghost use Rattle.row_codec.specs.Lending.{tested};
-ghost use Rattle.extractors.specs.CsvContent.{named_columns, header_of, tuple_of, tuples_from, csv_content};
+ghost use Rattle.extractors.specs.CsvContent.{named_columns, header_of, tuple_of, tuples_from, under_header, csv_content};
 ghost use Rattle.extractors.specs.Readers.{IsOpen, to_come};
 
 use crate::MAX_FILE;
@@ -28,11 +28,30 @@ pub(crate) fn check_content(
     let columns = schema.columns();
     let mut reader = reader_over(alloc, without_mark(file));
     let mut fields = ByteRecord::new(alloc);
-    if !next_record(&mut reader, &mut fields)? {
+    read_header(columns, &mut reader, &mut fields, any_header)?;
+    check_rows(columns, &mut reader, &mut fields)
+}
+
+/// Reads the header, behind which the rows are still to come, or tells what is wrong with it.
+pub(crate) fn read_header(
+    columns: &[Column],
+    reader: &mut Reader<&[u8]>,
+    fields: &mut ByteRecord,
+    any_header: bool,
+) -> Result<(), Stop<CsvFault>>
+    requires few { length columns.now ≤ 64 }
+    requires running { IsOpen reader.old }
+    ensures running { OnOk result (IsOpen reader.new) }
+    ensures under { OnOk result (under_header any_header columns.now (to_come reader.old)
+        ≡ tuples_from 1 columns.now (to_come reader.new)) }
+    ensures fewer { OnOk result (length (to_come reader.new) < length (to_come reader.old)) }
+    ensures fault { IfFault result (λ fault. under_header any_header columns.now (to_come reader.old) ≡ Err fault) }
+{
+    if !next_record(reader, fields)? {
         return Err(Stop::Fault(CsvFault::BadHeader { at: 1 }));
     }
-    match check_header(columns, &fields, any_header) {
-        Ok(()) => check_rows(columns, &mut reader, &mut fields),
+    match check_header(columns, fields, any_header) {
+        Ok(()) => Ok(()),
         Err(fault) => Err(Stop::Fault(fault)),
     }
 }

@@ -11,7 +11,7 @@ use crate::{CsvFault, CsvRows, MAX_FILE};
 use csv::ByteRecord;
 use std::alloc::Global;
 use std::marker::Model;
-use tuple_schema::{Memory, Schema, Stop, Tuples};
+use tuple_schema::{Memory, Schema, Stop};
 
 /// A CSV file that has a content, kept as its bytes. A contract sees it as its columns and its rows.
 #[derive(Drop)]
@@ -71,14 +71,5 @@ impl CsvSource {
             fields,
             progress: Progress::Reading,
         })
-    }
-
-    /// The rows as tuples, which are read again from the file.
-    pub fn tuples(&self, alloc: Global) -> Result<Tuples, Memory>
-        ensures content { IfOk result (λ t. t ≡ self.now.rows) }
-        ensures fit { IfOk result (λ t. All (Fits self.now.columns) t) }
-    {
-        let rows = self.rows(alloc)?;
-        rows.into_tuples(alloc)
     }
 }

@@ -1,20 +1,14 @@
--- Rows that fit, and their parts.
-use Rattle.std.proofs.Common.{◌≡◌, ◌∙◌, ℕ, zero, suc, ◌+◌, ◌<◌, List, [], ◌∷◌, ◌++◌, length, length-append, slice_get, All, Bool, true, false, ◌&&◌, Some, refl, ap, subst, arith}
-use Rattle.std.proofs.lemmas.List.Elements.{All-nil, All-weaker, All-map, All-filter}
+-- Rows that fit, their parts, and the batches that a node takes.
+use Rattle.std.proofs.Common.{◌≡◌, ◌∙◌, ℕ, zero, suc, ◌+◌, ◌<◌, List, [], ◌∷◌, ◌++◌, length, filter_map, take, drop, get_or, slice_get, All, Bool, true, false, ◌&&◌, Some, refl, ap, sym, subst}
+use Rattle.std.proofs.lemmas.List.{take_more, drop_more, take-append-drop}
+use Rattle.std.proofs.lemmas.List.Elements.{All-weaker, filter_map-append}
 use Rattle.std.proofs.lemmas.Option.{same_Some}
-use Rattle.std.specs.List.{AllZip}
+use Rattle.std.specs.List.{AllZip, cons_option}
 use Rattle.tuple_schema.specs.declared.value.Value.{Value}
 use Rattle.tuple_schema.specs.declared.schema.Column.{Column}
 use Rattle.tuple_schema.specs.Schemas.{Fits, fits, is_of}
 use Rattle.tuple_schema.specs.Tuples.{part}
-use Rattle.flow_types.specs.declared.node.Node.{Node}
-use Rattle.flow_types.specs.Flows.{columns_in, columns_of}
-use Rattle.flow_types.specs.Linked.{IsTaken, Takes, IsOver}
-use Rattle.plain_where.specs.Truths.{truth_of}
-use Rattle.flow_types.specs.declared.node.Kind.{Kind}
-use Rattle.flow_types.specs.declared.node.Kind.TheVariants as node
-use Rattle.kind_laws.specs.Outputs.{is_true, projected, list_in, output_of}
-use Rattle.kind_laws.specs.Laws.{FitAll, CanTake}
+use Rattle.flow_types.specs.Linked.{IsTaken, Takes}
 
 and-left : (a b : Bool) → (a && b) ≡ true → a ≡ true
 and-left true b h = refl
@@ -42,72 +36,56 @@ value_at (x ∷ columns) (v ∷ row) zero c at fit =
 value_at (x ∷ columns) (v ∷ row) (suc place) c at fit = value_at columns row place c at (and-right _ _ fit)
 
 -- the part of a row at these places fits the columns that are taken there
-pub part_fits : (columns output : List Column) (from : List ℕ) (row : List Value) → AllZip (IsTaken columns) from output → fits columns row ≡ true
+part_fits_each : (columns output : List Column) (from : List ℕ) (row : List Value) → AllZip (IsTaken columns) from output → fits columns row ≡ true
     → fits output (part row from) ≡ true
-part_fits columns [] [] row taken fit = refl
-part_fits columns [] (p ∷ from) row taken fit = absurd taken
-part_fits columns (c ∷ output) [] row taken fit = absurd taken
-part_fits columns (c ∷ output) (p ∷ from) row taken fit =
+part_fits_each columns [] [] row taken fit = refl
+part_fits_each columns [] (p ∷ from) row taken fit = absurd taken
+part_fits_each columns (c ∷ output) [] row taken fit = absurd taken
+part_fits_each columns (c ∷ output) (p ∷ from) row taken fit =
     let one = taken.0 in
     let is = value_at columns row p one.of one.at fit in
     let fine : is_of c.kind c.nullable is.0 ≡ true = rw (one.kind, one.nullable) is.2 in
-    let others = part_fits columns output from row taken.1 fit in
+    let others = part_fits_each columns output from row taken.1 fit in
     rw (is.1, fine) others
 
--- rows that fit have the places of a projection
-pub places_within : (columns : List Column) (from : List ℕ) (rows : List (List Value)) → All (λ place. place < length columns) from
-    → All (λ row. Fits columns row) rows → All (λ row. All (λ place. place < length row) from) rows
-places_within columns from rows within fit =
-    All-weaker (λ row. Fits columns row) (λ row. All (λ place. place < length row) from)
-    (λ row fits. All-weaker (λ place. place < length columns) (λ place. place < length row) (λ place small. rw (← fits-length columns row fits) small) from within)
-    rows fit
+pub part_fits : (columns output : List Column) (from : List ℕ) (row : List Value) → Takes columns from output → Fits columns row
+    → Fits output (part row from)
+part_fits columns output from row takes fit = part_fits_each columns output from row takes.each fit
 
--- the rows of a projection fit its columns
-pub projected_fit : (columns output : List Column) (from : List ℕ) (rows : List (List Value)) → Takes columns from output
-    → All (λ row. Fits columns row) rows → All (λ row. Fits output row) (projected from rows)
-projected_fit columns output from rows is fit =
-    All-map (λ row. Fits output row) (λ row. part row from) rows
-    (All-weaker (λ row. Fits columns row) (λ row. Fits output (part row from)) (λ row fits. part_fits columns output from row is.each fits) rows fit)
+-- a row that fits has the places that are taken
+pub places_within : (columns output : List Column) (from : List ℕ) (row : List Value) → Takes columns from output → Fits columns row
+    → All (λ place. place < length row) from
+places_within columns output from row takes fit =
+    All-weaker (λ place. place < length columns) (λ place. place < length row)
+    (λ place small. rw (← fits-length columns row fit) small) from takes.within
 
--- of one list the last is the only one
-pub only_last : (lists front : List (List (List Value))) (rows : List (List Value)) → lists ≡ front ++ rows ∷ [] → length lists ≡ 1 → list_in lists 0 ≡ rows
-only_last lists [] rows is one = ap (λ ls. list_in ls 0) is
-only_last lists (other ∷ front) rows is one =
-    let len : length lists ≡ suc (length front + 1) = ap length is ∙ ap suc (length-append front (rows ∷ [])) in
-    absurd (omega (arith, len, one))
+-- one value more of a part
+pub part_more : (row : List Value) (from : List ℕ) (i : ℕ) (v : Value) → i < length from → slice_get row (get_or from i 0) ≡ Some v
+    → part row (take (i + 1) from) ≡ part row (take i from) ++ v ∷ []
+part_more row from i v small there =
+    let one : filter_map (slice_get row) (get_or from i 0 ∷ []) ≡ v ∷ [] = rw there refl in
+    rw (take_more from i 0 small, filter_map-append, one) refl
 
--- as many lists fit as there are columns for
-fit_count : (columns : List (List Column)) (lists : List (List (List Value))) → FitAll columns lists → length lists ≡ length columns
-fit_count [] [] fit = refl
-fit_count [] (rows ∷ lists) fit = absurd fit
-fit_count (cols ∷ columns) [] fit = absurd fit
-fit_count (cols ∷ columns) (rows ∷ lists) fit = ap suc (fit_count columns lists fit.1)
+-- it stands between those before it and those behind it
+part_around : (row : List Value) (from : List ℕ) (i : ℕ) (v : Value) → i < length from → slice_get row (get_or from i 0) ≡ Some v
+    → part row from ≡ part row (take i from) ++ v ∷ part row (drop (i + 1) from)
+part_around row from i v small there =
+    ap (part row) (sym (take-append-drop i from) ∙ ap (λ ps. take i from ++ ps) (drop_more from i 0 small))
+    ∙ filter_map-append (slice_get row) (take i from) (get_or from i 0 ∷ drop (i + 1) from)
+    ∙ ap (λ found. part row (take i from) ++ cons_option found (part row (drop (i + 1) from))) there
 
--- the first list fits the first columns
-first_fit : (columns : List (List Column)) (lists : List (List (List Value))) → length columns ≡ 1 → FitAll columns lists → All (Fits (columns_in columns 0)) (list_in lists 0)
-first_fit [] lists one fit = absurd (omega arith)
-first_fit (cols ∷ columns) [] one fit = absurd fit
-first_fit (cols ∷ columns) (rows ∷ lists) one fit = fit.0
+-- in a row that fits, a value is of the column behind those of the values before it
+fits_behind : (columns : List Column) (front rest : List Value) (v : Value) → fits columns (front ++ v ∷ rest) ≡ true
+    → (c : Column) × (slice_get columns (length front) ≡ Some c) × (is_of c.kind c.nullable v ≡ true)
+fits_behind [] [] rest v fit = absurd cc
+fits_behind [] (x ∷ front) rest v fit = absurd cc
+fits_behind (c ∷ columns) [] rest v fit = (c, refl, and-left _ _ fit)
+fits_behind (c ∷ columns) (x ∷ front) rest v fit = fits_behind columns front rest v (and-right _ _ fit)
 
--- the rows that a node gives fit its columns
-over_fits : (inputs : List Node) (lists : List (List (List Value))) (columns : List Column) → FitAll (columns_of inputs) lists
-    → (k : Kind) → IsOver k (columns_of inputs) columns → All (Fits columns) (output_of k (columns_of inputs) lists)
-over_fits [] [] columns fit (node.Source file) over = All-nil (Fits columns)
-over_fits [] (rows ∷ lists) columns fit (node.Source file) over = absurd fit
-over_fits (n ∷ inputs) lists columns fit (node.Source file) over = let none = ap length over.0 in absurd (omega arith)
-over_fits inputs lists columns fit (node.Select test) over =
-    let one : length (columns_of inputs) ≡ 1 = ap length over.0 in
-    let first : columns_in (columns_of inputs) 0 ≡ columns = ap (λ cs. columns_in cs 0) over.0 in
-    rw (← first) (All-filter (λ row. is_true (truth_of test (columns_in (columns_of inputs) 0) row)) (Fits (columns_in (columns_of inputs) 0)) (list_in lists 0) (first_fit (columns_of inputs) lists one fit))
-over_fits inputs lists columns fit (node.Project from) over =
-    projected_fit (columns_in (columns_of inputs) 0) columns from (list_in lists 0) over.1 (first_fit (columns_of inputs) lists over.0 fit)
-
-pub output_fits : (n : Node) (inputs : List Node) (lists : List (List (List Value))) → CanTake n inputs lists → All (Fits n.schema) (output_of n.kind (columns_of inputs) lists)
-output_fits n inputs lists takes = over_fits inputs lists n.schema takes.fit n.kind takes.linked.over
-
--- what a projection takes has the places
-pub project_within : (n : Node) (inputs : List Node) (lists : List (List (List Value))) (from : List ℕ) → CanTake n inputs lists → n.kind ≡ node.Project from
-    → (length lists ≡ 1) × All (λ row. All (λ place. place < length row) from) (list_in lists 0)
-project_within n inputs lists from takes is =
-    let over : IsOver (node.Project from) (columns_of inputs) n.schema = subst (λ k. IsOver k (columns_of inputs) n.schema) is takes.linked.over in
-    (fit_count (columns_of inputs) lists takes.fit ∙ over.0, places_within (columns_in (columns_of inputs) 0) from (list_in lists 0) over.1.within (first_fit (columns_of inputs) lists over.0 takes.fit))
+-- so is the next value of a part that fits
+pub next_fits : (columns : List Column) (row : List Value) (from : List ℕ) (i : ℕ) (v : Value) → Fits columns (part row from)
+    → i < length from → slice_get row (get_or from i 0) ≡ Some v
+    → (c : Column) × (slice_get columns (length (part row (take i from))) ≡ Some c) × (is_of c.kind c.nullable v ≡ true)
+next_fits columns row from i v fit small there =
+    fits_behind columns (part row (take i from)) (part row (drop (i + 1) from)) v
+    (subst (Fits columns) (part_around row from i v small there) fit)

@@ -1,10 +1,10 @@
--- The lists of the trees that stand when nodes were taken one after the other.
-use Rattle.std.proofs.Common.{◌≡◌, ℕ, zero, suc, ◌+◌, ◌-◌, ◌<◌, ◌≤◌, ◌==◌, List, [], ◌∷◌, ◌++◌, length, take, drop, map, fold, get_or, slice_get, count_by, cond, All, Bool, true, eq-eqb, Some, refl, ap, sym, ◌∙◌, subst, length-drop, arith}
+-- The batches of the trees that stand when nodes were taken one after the other.
+use Rattle.std.proofs.Common.{◌≡◌, ℕ, zero, suc, ◌+◌, ◌-◌, ◌<◌, ◌≤◌, ◌==◌, List, [], ◌∷◌, ◌++◌, length, take, drop, map, fold, get_or, slice_get, count_by, cond, Bool, true, eq-eqb, Some, IfSome, refl, ap, sym, ◌∙◌, subst, arith}
 use Rattle.std.proofs.lemmas.List.{length-map, map-append, take-map, drop-map, take_all, take_more, drop_more}
-use Rattle.std.proofs.lemmas.List.Elements.{All-nil, All-head, All-tail, All-append, All-cons, All-take, All-drop}
 use Rattle.std.proofs.lemmas.List.Sums.{fold-append, sum_by-cons}
 use Rattle.std.proofs.lemmas.Option.{same_Some}
-use Rattle.tuple_schema.specs.Schemas.{Fits}
+use Rattle.tuple_schema.specs.declared.schema.Column.{Column}
+use Rattle.row_batch.specs.Packing.{BatchOf}
 use Rattle.list_algebra.specs.Bags.{Tuple}
 use Rattle.list_algebra.specs.Trees.{Tree, node, root_of, roots_of, trees_of, with_node, trees_in, EachNext}
 use Rattle.flow_types.specs.declared.node.Kind.{Kind}
@@ -14,8 +14,7 @@ use Rattle.flow_types.specs.Flows.{number_of, count_inputs, columns_of, ids_of}
 use Rattle.flow_types.specs.Linked.{IsOver, IsLinked, IsLinkedOver, AreApart}
 use Rattle.kind_laws.specs.Outputs.{output_of}
 use Rattle.kind_laws.specs.Wholes.{Lists, list_of, lists_of}
-use Rattle.kind_laws.specs.Laws.{FitAll, CanTake, OwnFit}
-use Rattle.kind_laws.proofs.Rows.{output_fits}
+use Rattle.kind_laws.specs.Laws.{CanTake}
 
 roots-list : (trees : List (Tree Node)) → roots_of (trees_of trees) ≡ map root_of trees
 roots-list [] = refl
@@ -25,21 +24,29 @@ lists-list : (truth : Lists) (trees : List (Tree Node)) → lists_of truth (tree
 lists-list truth [] = refl
 lists-list truth (t ∷ trees) = ap (λ ls. list_of truth t ∷ ls) (lists-list truth trees)
 
--- a tree's list fits the columns of its root
-pub record IsFine (truth : Lists) (t : Tree Node) : Type 0 where
-  pub fit : All (Fits (root_of t).schema) (list_of truth t)
+-- the batch of a tree: its list, with the columns of its root
+abbrev pub batch_of : Lists → Tree Node → BatchOf
+batch_of truth t = record { columns = (root_of t).schema; rows = list_of truth t }
 
-fit_lists : (truth : Lists) (trees : List (Tree Node)) → All (IsFine truth) trees → FitAll (columns_of (map root_of trees)) (map (list_of truth) trees)
-fit_lists truth [] fine = tt
-fit_lists truth (t ∷ trees) fine = ((All-head (IsFine truth) t trees fine).fit, fit_lists truth trees (All-tail (IsFine truth) t trees fine))
+pub same_batch : (b : BatchOf) (columns : List Column) (rows : List Tuple) → b.columns ≡ columns → b.rows ≡ rows
+    → b ≡ record { columns = columns; rows = rows }
+same_batch b columns rows own are = rw (← own, ← are) refl
 
-module _ (truth : Lists) (n : Node) (trees : List (Tree Node)) (linked : IsLinkedOver n (trees_of trees)) (fine : All (IsFine truth) trees) where
+columns_batches : (truth : Lists) (trees : List (Tree Node)) → map (λ (b : BatchOf). b.columns) (map (batch_of truth) trees) ≡ columns_of (map root_of trees)
+columns_batches truth [] = refl
+columns_batches truth (t ∷ trees) = ap (λ cs. (root_of t).schema ∷ cs) (columns_batches truth trees)
+
+rows_batches : (truth : Lists) (trees : List (Tree Node)) → map (λ (b : BatchOf). b.rows) (map (batch_of truth) trees) ≡ map (list_of truth) trees
+rows_batches truth [] = refl
+rows_batches truth (t ∷ trees) = ap (λ ls. list_of truth t ∷ ls) (rows_batches truth trees)
+
+module _ (truth : Lists) (n : Node) (trees : List (Tree Node)) (linked : IsLinkedOver n (trees_of trees)) where
   over : IsLinked n (map root_of trees)
   over = subst (IsLinked n) (roots-list trees) linked
 
   -- what stands below a node it can take
-  pub can_take : CanTake n (map root_of trees) (map (list_of truth) trees)
-  can_take = record { linked = over; fit = fit_lists truth trees fine }
+  pub can_take : CanTake n (map root_of trees) (map (batch_of truth) trees)
+  can_take = record { linked = over; columns = columns_batches truth trees }
 
   -- a source stands over nothing, and its list is its own
   pub own_list : (file : _) → n.kind ≡ kind.Source file → list_of truth (node n (trees_of trees)) ≡ truth n
@@ -51,8 +58,8 @@ module _ (truth : Lists) (n : Node) (trees : List (Tree Node)) (linked : IsLinke
 
   -- any other gives what its kind makes of the lists below it
   pub made_list : ((file : _) → n.kind ≡ kind.Source file → ⊥)
-      → list_of truth (node n (trees_of trees)) ≡ output_of n.kind (columns_of (map root_of trees)) (map (list_of truth) trees)
-  made_list no_source = by n.kind refl trees over.over
+      → list_of truth (node n (trees_of trees)) ≡ output_of n.kind (columns_of (map root_of trees)) (map (λ (b : BatchOf). b.rows) (map (batch_of truth) trees))
+  made_list no_source = by n.kind refl trees over.over ∙ ap (output_of n.kind (columns_of (map root_of trees))) (sym (rows_batches truth trees))
     where
       by : (k : Kind) → n.kind ≡ k → (ts : List (Tree Node)) → IsOver n.kind (columns_of (map root_of ts)) n.schema
           → list_of truth (node n (trees_of ts)) ≡ output_of n.kind (columns_of (map root_of ts)) (map (list_of truth) ts)
@@ -75,16 +82,6 @@ module _ (truth : Lists) (n : Node) (trees : List (Tree Node)) (linked : IsLinke
       let empty = ap length none in
       omega arith
 
-  pub fine_own : (file : _) → n.kind ≡ kind.Source file → OwnFit n.kind n.schema (truth n) → IsFine truth (node n (trees_of trees))
-  fine_own file is own = record {
-    fit = rw (own_list file is) (subst (λ k. OwnFit k n.schema (truth n)) is own);
-  }
-
-  pub fine_made : ((file : _) → n.kind ≡ kind.Source file → ⊥) → IsFine truth (node n (trees_of trees))
-  fine_made no_source = record {
-    fit = rw (made_list no_source) (output_fits n (map root_of trees) (map (list_of truth) trees) can_take);
-  }
-
 -- One node more.
 
 module _ (nodes : List Node) (i : ℕ) (n : Node) (small : i < length nodes) (is : n ≡ get_or nodes i n) where
@@ -102,24 +99,9 @@ module _ (truth : Lists) (trees : List (Tree Node)) (n : Node) where
   pub roots_grown : map root_of (with_node count_inputs trees n) ≡ take here (map root_of trees) ++ n ∷ []
   roots_grown = map-append root_of (take here trees) _ ∙ ap (λ ns. ns ++ n ∷ []) (sym (take-map root_of here trees))
 
-  pub lists_grown : map (list_of truth) (with_node count_inputs trees n)
-      ≡ take here (map (list_of truth) trees) ++ list_of truth (node n (trees_of (drop here trees))) ∷ []
-  lists_grown = map-append (list_of truth) (take here trees) _ ∙ ap (λ ls. ls ++ list_of truth (node n (trees_of (drop here trees))) ∷ []) (sym (take-map (list_of truth) here trees))
-
-  pub fine_grown : All (IsFine truth) trees → IsFine truth (node n (trees_of (drop here trees))) → All (IsFine truth) (with_node count_inputs trees n)
-  fine_grown fine own =
-      All-append (IsFine truth) (take here trees) _ (All-take (IsFine truth) here trees fine) (All-cons (IsFine truth) _ [] own (All-nil (IsFine truth)))
-
-  -- there are as many trees as the node takes
-  pub enough : IsLinkedOver n (trees_of (drop here trees)) → count_inputs n ≤ length trees
-  enough linked =
-      let roots = roots-list (drop here trees) in
-      let back = length-drop here trees in
-      let ids : length (ids_of (roots_of (trees_of (drop here trees)))) ≡ length (roots_of (trees_of (drop here trees))) = rw length-map refl in
-      let names : length (map root_of (drop here trees)) ≡ length (drop here trees) = rw length-map refl in
-      let all = ap length roots in
-      let inputs = ap length linked.inputs in
-      omega arith
+  pub batches_grown : map (batch_of truth) (with_node count_inputs trees n)
+      ≡ take here (map (batch_of truth) trees) ++ batch_of truth (node n (trees_of (drop here trees))) ∷ []
+  batches_grown = map-append (batch_of truth) (take here trees) _ ∙ ap (λ bs. bs ++ batch_of truth (node n (trees_of (drop here trees))) ∷ []) (sym (take-map (batch_of truth) here trees))
 
 -- Numbers of nodes that come once.
 
@@ -155,46 +137,49 @@ apart_at (x ∷ nodes) (suc i) (suc k) n m apart is there less same =
     (λ q. let sum = sum_by-cons (λ y. cond (number_of y == q) 1 0) x nodes in let most = apart q in omega arith)
     is there (omega arith) same
 
--- what holds once the rows of a node were made, over the last of these trees
-pub record Made (truth : Lists) (trees : List (Tree Node)) (n : Node) (inputs : List Node) (lists : List (List Tuple)) (rows : List Tuple) : Type 0 where
+-- what a source takes from the batches by number, where its own has its columns or isn't there
+pub source_at : (batches : List BatchOf) (number : ℕ) (columns : List Column) → IfSome (slice_get batches number) (λ (b : BatchOf). b.columns ≡ columns)
+    → get_or batches number (record { columns = columns; rows = [] }) ≡ record { columns = columns; rows = get_or (map (λ (b : BatchOf). b.rows) batches) number [] }
+source_at [] zero columns own = refl
+source_at [] (suc number) columns own = refl
+source_at (b ∷ batches) zero columns own = same_batch b columns b.rows own refl
+source_at (b ∷ batches) (suc number) columns own = source_at batches number columns own
+
+-- what holds once the batch of a node was made, over the last of these trees
+pub record Made (truth : Lists) (trees : List (Tree Node)) (n : Node) (inputs : List Node) (batches : List BatchOf) (b : BatchOf) : Type 0 where
   pub inputs_are : inputs ≡ take (length trees - count_inputs n) (map root_of trees)
-  pub lists_are : lists ≡ take (length trees - count_inputs n) (map (list_of truth) trees)
-  pub rows_are : rows ≡ list_of truth (node n (trees_of (drop (length trees - count_inputs n) trees)))
-  pub fine : IsFine truth (node n (trees_of (drop (length trees - count_inputs n) trees)))
+  pub batches_are : batches ≡ take (length trees - count_inputs n) (map (batch_of truth) trees)
+  pub batch_is : b ≡ batch_of truth (node n (trees_of (drop (length trees - count_inputs n) trees)))
 
-module _ (truth : Lists) (trees : List (Tree Node)) (n : Node) (linked : IsLinkedOver n (trees_of (drop (length trees - count_inputs n) trees))) (fine : All (IsFine truth) trees) where
-  back_fine : All (IsFine truth) (drop (length trees - count_inputs n) trees)
-  back_fine = All-drop (IsFine truth) (length trees - count_inputs n) trees fine
-
+module _ (truth : Lists) (trees : List (Tree Node)) (n : Node) (linked : IsLinkedOver n (trees_of (drop (length trees - count_inputs n) trees))) where
   -- of a source
-  pub made_source : (file : _) → n.kind ≡ kind.Source file → OwnFit n.kind n.schema (truth n) → (rows : List Tuple) → rows ≡ truth n
-      → Made truth trees n (map root_of trees) (map (list_of truth) trees) rows
-  made_source file is own rows are =
-      let none = no_inputs truth n (drop (length trees - count_inputs n) trees) linked back_fine file is in
+  pub made_source : (file : _) → n.kind ≡ kind.Source file → (b : BatchOf) → b ≡ record { columns = n.schema; rows = truth n }
+      → Made truth trees n (map root_of trees) (map (batch_of truth) trees) b
+  made_source file is b own =
+      let none = no_inputs truth n (drop (length trees - count_inputs n) trees) linked file is in
       let roots : length (map root_of trees) ≡ length trees = rw length-map refl in
-      let lists : length (map (list_of truth) trees) ≡ length trees = rw length-map refl in
+      let batches : length (map (batch_of truth) trees) ≡ length trees = rw length-map refl in
       record {
         inputs_are = sym (take_all (length trees - count_inputs n) (map root_of trees) (omega arith));
-        lists_are = sym (take_all (length trees - count_inputs n) (map (list_of truth) trees) (omega arith));
-        rows_are = are ∙ sym (own_list truth n (drop (length trees - count_inputs n) trees) linked back_fine file is);
-        fine = fine_own truth n (drop (length trees - count_inputs n) trees) linked back_fine file is own;
+        batches_are = sym (take_all (length trees - count_inputs n) (map (batch_of truth) trees) (omega arith));
+        batch_is = same_batch b n.schema _ (ap (λ (c : BatchOf). c.columns) own)
+            (ap (λ (c : BatchOf). c.rows) own ∙ sym (own_list truth n (drop (length trees - count_inputs n) trees) linked file is));
       }
 
   -- of any other
-  pub made_other : ((file : _) → n.kind ≡ kind.Source file → ⊥) → (rows : List Tuple)
-      → rows ≡ output_of n.kind (columns_of (drop (length trees - count_inputs n) (map root_of trees))) (drop (length trees - count_inputs n) (map (list_of truth) trees))
-      → Made truth trees n (take (length trees - count_inputs n) (map root_of trees)) (take (length trees - count_inputs n) (map (list_of truth) trees)) rows
-  made_other no_source rows are = record {
+  pub made_other : ((file : _) → n.kind ≡ kind.Source file → ⊥) → (b : BatchOf) → b.columns ≡ n.schema
+      → b.rows ≡ output_of n.kind (columns_of (drop (length trees - count_inputs n) (map root_of trees))) (map (λ (c : BatchOf). c.rows) (drop (length trees - count_inputs n) (map (batch_of truth) trees)))
+      → Made truth trees n (take (length trees - count_inputs n) (map root_of trees)) (take (length trees - count_inputs n) (map (batch_of truth) trees)) b
+  made_other no_source b own are = record {
     inputs_are = refl;
-    lists_are = refl;
-    rows_are =
-        are ∙ ap (λ ns. output_of n.kind (columns_of ns) (drop (length trees - count_inputs n) (map (list_of truth) trees))) (drop-map root_of (length trees - count_inputs n) trees)
-        ∙ ap (output_of n.kind (columns_of (map root_of (drop (length trees - count_inputs n) trees)))) (drop-map (list_of truth) (length trees - count_inputs n) trees)
-        ∙ sym (made_list truth n (drop (length trees - count_inputs n) trees) linked back_fine no_source);
-    fine = fine_made truth n (drop (length trees - count_inputs n) trees) linked back_fine no_source;
+    batches_are = refl;
+    batch_is = same_batch b n.schema _ own
+        (are ∙ ap (λ ns. output_of n.kind (columns_of ns) (map (λ (c : BatchOf). c.rows) (drop (length trees - count_inputs n) (map (batch_of truth) trees)))) (drop-map root_of (length trees - count_inputs n) trees)
+        ∙ ap (λ bs. output_of n.kind (columns_of (map root_of (drop (length trees - count_inputs n) trees))) (map (λ (c : BatchOf). c.rows) bs)) (drop-map (batch_of truth) (length trees - count_inputs n) trees)
+        ∙ sym (made_list truth n (drop (length trees - count_inputs n) trees) linked no_source));
   }
 
-  pub can_take_last : CanTake n (drop (length trees - count_inputs n) (map root_of trees)) (drop (length trees - count_inputs n) (map (list_of truth) trees))
+  pub can_take_last : CanTake n (drop (length trees - count_inputs n) (map root_of trees)) (drop (length trees - count_inputs n) (map (batch_of truth) trees))
   can_take_last =
-      rw (drop-map root_of (length trees - count_inputs n) trees, drop-map (list_of truth) (length trees - count_inputs n) trees)
-      (can_take truth n (drop (length trees - count_inputs n) trees) linked back_fine)
+      rw (drop-map root_of (length trees - count_inputs n) trees, drop-map (batch_of truth) (length trees - count_inputs n) trees)
+      (can_take truth n (drop (length trees - count_inputs n) trees) linked)

@@ -1,46 +1,87 @@
 // What each kind makes of the rows of its input.
-ghost use Rattle.std.specs.Prelude.{◌≡◌, ◌<◌, length, map, All, IsSome, IfOk};
+ghost use Rattle.std.specs.Prelude.{◌≡◌, ◌<◌, [], length, map, All, IsSome, IfOk, OnOk};
 ghost use Rattle.std.specs.List.{filter};
+ghost use Rattle.tuple_schema.specs.Schemas.{Fits};
+ghost use Rattle.tuple_schema.specs.Tuples.{part};
+ghost use Rattle.flow_types.specs.Linked.{Takes};
 ghost use Rattle.plain_where.specs.Truths.{place_of, truth_at};
 ghost use Rattle.kind_laws.specs.Outputs.{is_true, selected, projected};
 
 use plain_where::{Expr, Truth, truth_at};
+use row_batch::{Batch, BatchBuilder, RowView};
 use std::alloc::Global;
-use tuple_schema::{Fields, Memory, Schema, Tuple, Tuples};
+use tuple_schema::{Fields, Memory, Schema};
 
-/// The rows of which the test is true, in their order. No row is copied.
-pub fn select(test: &Expr, columns: &Schema, rows: Tuples) -> Tuples
-    requires { IsSome (place_of (map (λ c. c.name) columns.now) test.now.column) }
-    ensures { result ≡ selected test.now columns.now rows }
+/// The rows of which the test is true, in their order.
+pub fn select(alloc: Global, test: &Expr, rows: &Batch) -> Result<Batch, Memory>
+    requires { IsSome (place_of (map (λ c. c.name) rows.now.columns) test.now.column) }
+    ensures columns { IfOk result (λ b. b.columns ≡ rows.now.columns) }
+    ensures rows { IfOk result (λ b. b.rows ≡ selected test.now rows.now.columns rows.now.rows) }
 {
-    let mut kept = rows.into_rows();
-    if let Some(place) = test.place(columns.columns()) {
-        keep_true(test, place, &mut kept);
+    let schema = rows.schema();
+    let mut kept = Batch::new(alloc, schema)?;
+    if let Some(place) = test.place(schema.columns()) {
+        keep_true(test, place, rows, &mut kept)?;
     }
-    Tuples::of(kept)
+    Ok(kept)
 }
 
-// Keeps the rows of which the test, whose column is at this place, is true.
-fn keep_true(test: &Expr, place: usize, rows: &mut Vec<Tuple>)
-    ensures { rows.new.items ≡ filter (λ row. is_true (truth_at test.now place row)) rows.old.items }
+// Brings the rows of which the test, whose column is at this place, is true. The bytes of each are copied as they are.
+fn keep_true(test: &Expr, place: usize, rows: &Batch, kept: &mut Batch) -> Result<(), Memory>
+    requires within { place < length rows.now.columns }
+    requires same { kept.old.columns ≡ rows.now.columns }
+    requires empty { kept.old.rows ≡ [] }
+    ensures columns { kept.new.columns ≡ rows.now.columns }
+    ensures rows { OnOk result
+        (kept.new.rows ≡ filter (λ row. is_true (truth_at test.now place row)) rows.now.rows) }
 {
-    rows.retain(|row| is_true(test, place, row));
+    for number in 0..rows.len() {
+        let row = rows.row(number);
+        if is_true(test, place, &row) {
+            kept.push_view(&row)?;
+        }
+    }
+    Ok(())
 }
 
-fn is_true(test: &Expr, place: usize, row: &Tuple) -> bool
+// Whether the test, whose column is at this place, is true of the row.
+fn is_true(test: &Expr, place: usize, row: &RowView<'_>) -> bool
+    requires { place < length row.now }
     ensures { result ≡ is_true (truth_at test.now place row.now) }
 {
-    place < row.count() && truth_at(test, place, row) == Truth::True
+    truth_at(test, place, row) == Truth::True
 }
 
-/// Of each row the part at these places.
-pub fn project(alloc: Global, from: &[usize], rows: Tuples) -> Result<Tuples, Memory>
-    requires { All (λ row. All (λ place. place < length row) from.now) rows }
-    ensures { IfOk result (λ r. r ≡ projected from.now rows) }
+/// Of each row the part at these places, as a row of these columns.
+pub fn project(
+    alloc: Global,
+    from: &[usize],
+    columns: &Schema,
+    rows: &Batch,
+) -> Result<Batch, Memory>
+    requires { Takes rows.now.columns from.now columns.now }
+    ensures columns { IfOk result (λ b. b.columns ≡ columns.now) }
+    ensures rows { IfOk result (λ b. b.rows ≡ projected from.now rows.now.rows) }
 {
-    let mut parts = Tuples::new(alloc);
-    for row in rows.rows() {
-        parts.push(row.part(from)?)?;
+    let mut parts = BatchBuilder::new(alloc, columns)?;
+    for number in 0..rows.len() {
+        add_part(&rows.row(number), from, &mut parts)?;
+        parts.end_row()?;
     }
-    Ok(parts)
+    Ok(parts.finish())
+}
+
+// Adds the row's values at these places to the row that is begun.
+fn add_part(row: &RowView<'_>, from: &[usize], parts: &mut BatchBuilder) -> Result<(), Memory>
+    requires within { All (λ place. place < length row.now) from.now }
+    requires fits { Fits parts.old.columns (part row.now from.now) }
+    requires begins { parts.old.begun ≡ [] }
+    ensures begun { OnOk result (parts.new.begun ≡ part row.now from.now) }
+    ensures rows { OnOk result (parts.new.rows ≡ parts.old.rows) }
+    ensures columns { OnOk result (parts.new.columns ≡ parts.old.columns) }
+{
+    for place in from {
+        parts.add(row.field(*place))?;
+    }
+    Ok(())
 }

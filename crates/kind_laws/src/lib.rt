@@ -1,11 +1,11 @@
 //! What a flow means on whole lists: the list that each kind makes of the lists of its inputs.
 //!
-//! Stands on `flow_types`, whose nodes it gives their meaning, on `list_algebra` and on `plain_where`. `load_runner`
-//! loads what `whole` makes of the sources. Read `specs/Outputs.antt` first, one equation for each kind, then
-//! `specs/Wholes.antt`, the meaning of a flow.
+//! Stands on `flow_types`, whose nodes it gives their meaning, on `row_batch`, whose batches hold the lists, on
+//! `list_algebra` and on `plain_where`. `load_runner` loads what `whole` makes of the sources. Read
+//! `specs/Outputs.antt` first, one equation for each kind, then `specs/Wholes.antt`, the meaning of a flow.
 //!
-//! Promised: `Transform::out` is the kind's equation on all lists whose rows fit the inputs, and `whole` is the
-//! meaning of the flow, over any number of sources.
+//! Promised: `Transform::out` is the kind's equation on all lists that have the inputs' columns, and `whole` is the
+//! meaning of the flow, over any number of sources; what each makes has the node's columns.
 //! Not promised: that memory is found.
 #![tactic(auto)]
 

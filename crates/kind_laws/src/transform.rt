@@ -1,24 +1,31 @@
 // The nodes of a flow as transforms of whole lists.
 use crate::kinds::{project, select};
 use flow_types::{Kind, Node};
+use row_batch::Batch;
 use std::alloc::Global;
-use tuple_schema::{Memory, Tuples};
+use tuple_schema::Memory;
 
 /// What a node makes of the whole lists of its inputs.
 pub trait Transform {
-    ghost use Rattle.std.specs.Prelude.{◌≡◌, List, IfOk};
+    ghost use Rattle.std.specs.Prelude.{◌≡◌, List, map, IfOk};
     ghost use Rattle.tuple_schema.specs.declared.value.Value.{Value};
+    ghost use Rattle.tuple_schema.specs.declared.schema.Column.{Column};
+    ghost use Rattle.row_batch.specs.Packing.{BatchOf};
 
     /// The list that it makes of these lists.
     ghost output: { Self → List (List (List Value)) → List (List Value) };
 
-    /// The lists that it takes.
-    ghost takes: { Self → List (List (List Value)) → Type 0 };
+    /// The columns of what it makes.
+    ghost columns: { Self → List Column };
 
-    /// Makes the list. The inputs' rows are given away, so that none of those that stay is copied.
-    fn out(&self, alloc: Global, lists: Vec<Tuples>) -> Result<Tuples, Memory>
+    /// The lists that it takes.
+    ghost takes: { Self → List BatchOf → Type 0 };
+
+    /// Makes the list. Those of the inputs are given away, so that they are let go once it is made.
+    fn out(&self, alloc: Global, lists: Vec<Batch>) -> Result<Batch, Memory>
         requires { takes self.now lists.items }
-        ensures { IfOk result (λ rows. rows ≡ output self.now lists.items) };
+        ensures rows { IfOk result (λ b. b.rows ≡ output self.now (map (λ l. l.rows) lists.items)) }
+        ensures columns { IfOk result (λ b. b.columns ≡ columns self.now) };
 }
 
 /// A node that is no source, over its inputs.
@@ -36,16 +43,18 @@ impl Transform for Law<'_> {
 
     ghost output = { λ law. output_of law.node.now.kind (columns_of (map (λ n. n.now) law.inputs.items)) };
 
+    ghost columns = { λ law. law.node.now.schema };
+
     ghost takes = { λ law. CanTake law.node.now (map (λ n. n.now) law.inputs.items) };
 
-    fn out(&self, alloc: Global, mut lists: Vec<Tuples>) -> Result<Tuples, Memory> {
+    fn out(&self, alloc: Global, mut lists: Vec<Batch>) -> Result<Batch, Memory> {
         let Some(rows) = lists.pop() else {
-            return Ok(Tuples::new(alloc));
+            return Batch::new(alloc, &self.node.schema);
         };
         match &self.node.kind {
             Kind::Source(_) => Ok(rows),
-            Kind::Select { test } => Ok(select(test, &self.inputs[0].schema, rows)),
-            Kind::Project { from } => project(alloc, from.places(), rows),
+            Kind::Select { test } => select(alloc, test, &rows),
+            Kind::Project { from } => project(alloc, from.places(), &self.node.schema, &rows),
         }
     }
 }

@@ -1,19 +1,17 @@
 -- The contents of sources, read one after the other.
-use Rattle.std.proofs.Common.{◌≡◌, ℕ, zero, suc, ◌+◌, ◌<◌, List, [], ◌∷◌, ◌++◌, length, map, get_or, slice_get, Some, Result, Ok, Err, refl, ap, sym, ◌∙◌, subst, inl, inr, arith}
+use Rattle.std.proofs.Common.{◌≡◌, ℕ, zero, suc, ◌+◌, ◌<◌, List, [], ◌∷◌, ◌++◌, length, map, get_or, slice_get, Some, None, Result, Ok, Err, refl, ap, sym, ◌∙◌, subst, inl, inr, arith}
 use Rattle.std.specs.List.{range_with_len}
 use Rattle.std.proofs.lemmas.Bool.{cases_lt}
-use Rattle.std.proofs.lemmas.List.{get_or_past}
 use Rattle.std.proofs.lemmas.List.FromFn.{map-range_with_len_more}
-use Rattle.std.proofs.lemmas.List.Elements.{All-nil}
-use Rattle.std.proofs.lemmas.Option.{slice_get_read}
+use Rattle.std.proofs.lemmas.Option.{slice_get_read, slice_get_past}
 use Rattle.list_algebra.specs.Bags.{Tuple}
-use Rattle.tuple_schema.specs.Schemas.{Fits}
+use Rattle.tuple_schema.specs.declared.schema.Column.{Column}
+use Rattle.row_batch.specs.Packing.{BatchOf}
 use Rattle.flow_types.specs.declared.node.Kind.{Kind}
 use Rattle.flow_types.specs.declared.node.Kind.TheVariants as kind
 use Rattle.flow_types.specs.declared.node.Node.{Node}
 use Rattle.flow_types.specs.Flows.{TypedFlow, number_of, node_of}
-use Rattle.kind_laws.specs.Wholes.{by_number}
-use Rattle.kind_laws.specs.Laws.{OwnFit, SourcesFit}
+use Rattle.kind_laws.specs.Laws.{HasOwnColumns, SourcesHaveColumns}
 use Rattle.tuple_schema.specs.Stops.{◌>>=◌}
 use Rattle.load_runner.specs.declared.fault.SourceFault.{SourceFault}
 use Rattle.load_runner.specs.Sources.{all_of, numbered}
@@ -66,21 +64,31 @@ pub contents_more : (f : ℕ → Result (List Tuple) SourceFault) (n : ℕ) (fou
 contents_more f n found rows is here =
     rw (map-range_with_len_more f 0 n n (omega arith), here) (all_of-snoc (map f (range_with_len 0 n)) found rows is)
 
-none_fit : (k : Kind) (columns : _) → OwnFit k columns []
-none_fit (kind.Source file) columns = All-nil (Fits columns)
-none_fit (kind.Select test) columns = tt
-none_fit (kind.Project from) columns = tt
+pub slice_get_append_left : {X : Type 0} (xs ys : List X) (k : ℕ) → k < length xs → slice_get (xs ++ ys) k ≡ slice_get xs k
+slice_get_append_left [] ys k small = absurd (omega arith)
+slice_get_append_left (x ∷ xs) ys zero small = refl
+slice_get_append_left (x ∷ xs) ys (suc k) small = slice_get_append_left xs ys k (omega arith)
 
--- lists that fit the nodes of their numbers fit the sources
-pub sources_fit : (flow : TypedFlow) (lists : List (List Tuple)) → ((place : ℕ) (n : Node) → slice_get flow.nodes place ≡ Some n → node_of flow n.id ≡ Some n)
-    → ((k : ℕ) (n : Node) → k < length lists → numbered flow.nodes k ≡ Some n → OwnFit n.kind n.schema (get_or lists k []))
-    → SourcesFit flow.nodes (by_number lists)
-sources_fit flow lists found fit place d small =
+pub slice_get_at_seam : {X : Type 0} (xs : List X) (y : X) (ys : List X) → slice_get (xs ++ y ∷ ys) (length xs) ≡ Some y
+slice_get_at_seam [] y ys = refl
+slice_get_at_seam (x ∷ xs) y ys = slice_get_at_seam xs y ys
+
+-- a number without a batch asks for nothing
+none_has_columns : (k : Kind) (columns : List Column) → HasOwnColumns k columns None
+none_has_columns (kind.Source file) columns = tt
+none_has_columns (kind.Select test) columns = tt
+none_has_columns (kind.Project from) columns = tt
+
+-- batches that have the columns of the nodes of their numbers have those of the sources
+pub sources_have_columns : (flow : TypedFlow) (lists : List BatchOf) → ((place : ℕ) (n : Node) → slice_get flow.nodes place ≡ Some n → node_of flow n.id ≡ Some n)
+    → ((k : ℕ) (n : Node) → k < length lists → numbered flow.nodes k ≡ Some n → HasOwnColumns n.kind n.schema (slice_get lists k))
+    → SourcesHaveColumns flow.nodes lists
+sources_have_columns flow lists found have place d small =
     let n : Node = get_or flow.nodes place d in
     let at : slice_get flow.nodes place ≡ Some n = slice_get_read flow.nodes (length flow.nodes) place n refl small (own flow.nodes place d small) in
     elim (cases_lt (number_of n) (length lists)) [
-      | inl less ↦ fit (number_of n) n less (found place n at)
-      | inr past ↦ subst (OwnFit n.kind n.schema) (sym (get_or_past lists (number_of n) [] past)) (none_fit n.kind n.schema)
+      | inl less ↦ have (number_of n) n less (found place n at)
+      | inr past ↦ subst (HasOwnColumns n.kind n.schema) (sym (slice_get_past lists (number_of n) past)) (none_has_columns n.kind n.schema)
     ]
   where
     own : (nodes : List Node) (k : ℕ) (e : Node) → k < length nodes → get_or nodes k e ≡ get_or nodes k (get_or nodes k e)

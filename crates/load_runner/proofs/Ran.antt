@@ -16,7 +16,8 @@ use Rattle.table_write.specs.Cut.{IsCut, cut, together}
 use Rattle.table_read.specs.Rows.{table_rows}
 use Rattle.table_write.specs.Adds.{with_blocks}
 use Rattle.table_write.specs.Rows.{HoldsRows, HoldsFirst, HoldsEnded, stored_of}
-use Rattle.load_runner.specs.Adding.{Addition, OfOlds, LeavesGrown}
+use Rattle.row_batch.specs.Packing.{BatchOf}
+use Rattle.load_runner.specs.Adding.{Addition, addition, OfOlds, LeavesGrown}
 use Rattle.load_runner.specs.Standing.{Begins}
 use Rattle.load_runner.specs.Safe.{IsSafe, TableGrows, IsGrown}
 use Rattle.load_runner.specs.Sources.{IsMeaning, columns_of_last}
@@ -106,11 +107,11 @@ began_of job found old mid root last time spares syncs starts unended = record {
   unended = sym unended;
 }
 
-pub missing_is : (job : Job) (found : Attached) (whole : List (List Value)) (root : Node) → Some root ≡ root_in job.flow.nodes → (rows : List (List Value)) → rows ≡ drop (count_of found) whole
-    → (Fact : Addition → Type 0) → Fact (record { found = found; text = job.text; columns = root.schema; batch = job.batch; rows = rows }) → Fact (missing_of job found whole)
-missing_is job found whole root last rows are Fact fact =
+pub missing_is : (job : Job) (found : Attached) (whole : BatchOf) → whole.columns ≡ columns_of job → (from : ℕ) → drop from whole.rows ≡ drop (count_of found) whole.rows
+    → (Fact : Addition → Type 0) → Fact (addition found job.text job.batch whole from) → Fact (missing_of job found whole.rows)
+missing_is job found whole columns from are Fact fact =
     let Of : List Column → List (List Value) → Type 0 = λ columns rows. Fact (record { found = found; text = job.text; columns = columns; batch = job.batch; rows = rows }) in
-    subst (Of (columns_of job)) are (subst (λ columns. Of columns rows) (ap columns_of_last last) fact)
+    subst (Of (columns_of job)) are (subst (λ columns. Of columns (drop from whole.rows)) columns fact)
 
 -- a load that wrote nothing then
 pub only_read : (job : Job) (told : Option Files) (found : Attached) (old mid : DiskState) → Began job found old mid → IsTrue old.honest → Ran job told found old mid mid

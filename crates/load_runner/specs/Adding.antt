@@ -1,10 +1,11 @@
 -- What adding rows to the table that was found does.
-use Rattle.std.specs.Prelude.{ℕ, List, take, All, IsTrue, Result, Ok, Err, true, false}
+use Rattle.std.specs.Prelude.{ℕ, List, take, drop, All, IsTrue, Result, Ok, Err, true, false}
 use Rattle.outside.specs.Words.{Rose, Each, DiskState, IsSettled, LeftBetween, OnlyReads}
 use Rattle.tuple_schema.specs.declared.schema.Column.{Column}
 use Rattle.tuple_schema.specs.declared.memory.Stop.{Stop}
 use Rattle.tuple_schema.specs.declared.memory.Stop.TheVariants.{Memory, Fault}
 use Rattle.row_codec.specs.Decoding.{IsRowOf}
+use Rattle.row_batch.specs.Packing.{BatchOf}
 use Rattle.list_algebra.specs.Bags.{Tuple}
 use Rattle.commit_disk.specs.declared.attaching.Attached.{Attached}
 use Rattle.commit_disk.specs.Table.{Stored, Holds}
@@ -23,6 +24,16 @@ pub record Addition : Type 0 where
   pub columns : List Column
   pub batch : ℕ
   pub rows : List Tuple
+
+-- the rows of a batch from a place on
+abbrev pub addition : Attached → List ℕ → ℕ → BatchOf → ℕ → Addition
+addition found text batch rows from = record {
+  found = found;
+  text = text;
+  columns = rows.columns;
+  batch = batch;
+  rows = drop from rows.rows;
+}
 
 -- the blocks that are to be added
 abbrev pub blocks_of : Addition → List (List Tuple)

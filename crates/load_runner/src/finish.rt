@@ -1,7 +1,6 @@
 // The end of a load, which makes the table where it isn't made, and commits rows to it.
-ghost use Rattle.std.specs.Prelude.{◌≡◌, ◌≢◌, ◌≤◌, ◌<◌, ℕ, List, IsTrue, Err, length, All, true, false};
+ghost use Rattle.std.specs.Prelude.{◌≡◌, ◌≢◌, ◌≤◌, ◌<◌, ℕ, List, IsTrue, Err, length, drop, true, false};
 ghost use Rattle.outside.specs.Words.{Elapses, IsSettled};
-ghost use Rattle.tuple_schema.specs.Schemas.{Fits};
 ghost use Rattle.tuple_schema.specs.declared.memory.Stop.TheVariants as stop;
 ghost use Rattle.commit_disk.specs.declared.attaching.Attached.TheVariants as attached;
 ghost use Rattle.commit_disk.specs.Table.{Stored, HoldsUpTo};
@@ -9,23 +8,24 @@ ghost use Rattle.commit_disk.specs.Attach.{IsWithin, IsSound};
 ghost use Rattle.table_write.specs.Cut.{cut};
 ghost use Rattle.table_write.specs.Adds.{LeavesFronts};
 ghost use Rattle.load_runner.specs.Starts.{IsAt, is_ended};
-ghost use Rattle.load_runner.specs.Adding.{Finishes, OfOlds, LeavesGrown};
+ghost use Rattle.load_runner.specs.Adding.{addition, Finishes, OfOlds, LeavesGrown};
 
 use commit_disk::{Attached, Journal, MAX_FLOW_BYTES, MAX_ROWS, make};
 use outside::{Disk, Failed};
+use row_batch::Batch;
 use std::alloc::Global;
 use table_write::{WriteFault, Writer};
-use tuple_schema::{Schema, Stop, Tuple};
+use tuple_schema::Stop;
 
-/// Makes the table where it isn't made, commits the rows behind those that it has, and ends it.
+/// Makes the table where it isn't made, commits the rows from this place on behind those that it has, and ends it.
 #[tactic(auto, using(outside::specs::Moments::no_read))]
 pub fn finish<K: Disk>(
     alloc: Global,
     disk: &mut K,
     found: Attached,
     text: &[u8],
-    schema: &Schema,
-    rows: &[Tuple],
+    rows: &Batch,
+    from: usize,
     batch: u32,
     writer: &mut Writer,
 ) -> Result<(), Stop<WriteFault>>
@@ -35,24 +35,21 @@ pub fn finish<K: Disk>(
     requires within { IsWithin found (K.state disk.old).size }
     requires start { IsTrue (K.state disk.old).honest → (olds : List Stored)
         × IsAt found (K.state disk.old).file text.now olds }
-    requires fit { All (λ row. Fits schema.now row) rows.now }
+    requires place { from ≤ length rows.now.rows }
     requires some { 1 ≤ batch }
     requires few { batch ≤ MAX_ROWS }
 
-    ensures finishes { Finishes
-        (record { found = found; text = text.now; columns = schema.now; batch = batch; rows = rows.now })
+    ensures finishes { Finishes (addition found text.now batch rows.now from)
         (K.state disk.old) (K.state disk.new) result }
-    ensures any_moment { IsSettled (K.state disk.old) → OfOlds
-        (record { found = found; text = text.now; columns = schema.now; batch = batch; rows = rows.now })
-        (K.state disk.old) (λ olds. LeavesGrown
-        (record { found = found; text = text.now; columns = schema.now; batch = batch; rows = rows.now })
-        olds (K.state disk.old) (K.state disk.new)) }
+    ensures any_moment { IsSettled (K.state disk.old)
+        → OfOlds (addition found text.now batch rows.now from) (K.state disk.old)
+        (λ olds. LeavesGrown (addition found text.now batch rows.now from) olds (K.state disk.old) (K.state disk.new)) }
     ensures elapses { Elapses (K.state disk.old) (K.state disk.new) }
 {
     match found {
-        Attached::Made(journal) => append(disk, journal, schema, rows, batch, writer),
+        Attached::Made(journal) => append(disk, journal, rows, from, batch, writer),
         Attached::NotMade => match make(alloc, disk, text) {
-            Ok(journal) => append(disk, journal, schema, rows, batch, writer),
+            Ok(journal) => append(disk, journal, rows, from, batch, writer),
             Err(Stop::Memory) => Err(Stop::Memory),
             Err(Stop::Fault(Failed)) => Err(Stop::Fault(WriteFault::Disk)),
         },
@@ -63,32 +60,28 @@ pub fn finish<K: Disk>(
 fn append<K: Disk>(
     disk: &mut K,
     mut journal: Journal,
-    schema: &Schema,
-    rows: &[Tuple],
+    rows: &Batch,
+    from: usize,
     batch: u32,
     writer: &mut Writer,
 ) -> Result<(), Stop<WriteFault>>
     requires sound { journal.sound ≡ true }
     requires unended { journal.ended ≡ false }
     requires within { journal.gate < (K.state disk.old).size }
-    requires fit { All (λ row. Fits schema.now row) rows.now }
+    requires place { from ≤ length rows.now.rows }
     requires some { 1 ≤ batch }
     requires few { batch ≤ MAX_ROWS }
 
-    ensures finishes { (text : List ℕ) → Finishes (record {
-      found = attached.Made journal;
-      text = text;
-      columns = schema.now;
-      batch = batch;
-      rows = rows.now;
-    }) (K.state disk.old) (K.state disk.new) result }
+    ensures finishes { (text : List ℕ) → Finishes (addition (attached.Made journal) text batch rows.now from)
+        (K.state disk.old) (K.state disk.new) result }
     ensures no_memory { result ≢ Err stop.Memory }
     ensures any_moment { IsTrue (K.state disk.old).honest → IsSettled (K.state disk.old)
         → (text : List ℕ) (olds : List Stored) → HoldsUpTo journal.gate (K.state disk.old).file text olds false
-        → LeavesFronts text schema.now olds (cut batch rows.now) (K.state disk.old) (K.state disk.new) }
+        → LeavesFronts text rows.now.columns olds (cut batch (drop from rows.now.rows))
+        (K.state disk.old) (K.state disk.new) }
     ensures elapses { Elapses (K.state disk.old) (K.state disk.new) }
 {
-    match writer.append(&mut journal, disk, schema, rows, batch) {
+    match writer.append(&mut journal, disk, rows, from, batch) {
         Ok(()) => Ok(()),
         Err(fault) => Err(Stop::Fault(fault)),
     }

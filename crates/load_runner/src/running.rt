@@ -11,9 +11,10 @@ use commit_disk::{MAX_FLOW_BYTES, MAX_ROWS, holds_once, verdicts_agree};
 use flow_types::{Flow, tree_laws};
 use list_algebra::bag_laws;
 use outside::{Depot, Disk};
+use row_batch::Batch;
 use std::alloc::Global;
 use table_write::{Writer, blocks_laws, cut_laws, still_laws};
-use tuple_schema::{Stop, Tuple};
+use tuple_schema::Stop;
 
 /// Loads what the table still lacks of the flow's meaning, in blocks of `batch` rows, and ends it. Ok is complete.
 ///
@@ -50,35 +51,27 @@ pub fn load<D: Depot, K: Disk>(
         return Ok(ended_report(alloc, before));
     }
     let mut writer = Writer::new(alloc)?;
-    let rows = match whole_rows(alloc, flow, depot) {
-        Ok(rows) => rows,
+    let whole = match whole_rows(alloc, flow, depot) {
+        Ok(whole) => whole,
         Err(stop) => return Err(of_sources(stop)),
     };
     // The report comes first, so that no memory is wanted once the table is ended.
-    let report = skip_report(alloc, root.id, before, rows.len() as u64)?;
-    let missing = behind(rows.rows(), before);
-    match finish(
-        alloc,
-        disk,
-        found,
-        text,
-        &root.schema,
-        missing,
-        batch,
-        &mut writer,
-    ) {
+    let report = skip_report(alloc, root.id, before, whole.len() as u64)?;
+    let from = place_behind(&whole, before);
+    match finish(alloc, disk, found, text, &whole, from, batch, &mut writer) {
         Ok(()) => Ok(report),
         Err(stop) => Err(of_write(stop)),
     }
 }
 
-// The rows behind so many, if there are more.
-fn behind(rows: &[Tuple], count: u64) -> &[Tuple]
-    ensures { result.now ≡ drop count rows.now }
+// The place behind so many rows, or behind all where there are fewer.
+fn place_behind(whole: &Batch, count: u64) -> usize
+    ensures within { result ≤ length whole.now.rows }
+    ensures behind { drop result whole.now.rows ≡ drop count whole.now.rows }
 {
-    if count < rows.len() as u64 {
-        &rows[count as usize..]
+    if count < whole.len() as u64 {
+        count as usize
     } else {
-        &rows[rows.len()..]
+        whole.len()
     }
 }

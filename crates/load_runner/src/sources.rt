@@ -1,38 +1,36 @@
 // The rows that a flow means, from the files of its sources.
-ghost use Rattle.std.specs.Prelude.{◌≡◌, ◌≢◌, ◌<◌, ◌≤◌, ◌+◌, ℕ, Some, All, IfOk, IfSome, Ok, Err, option_copied, find};
+ghost use Rattle.std.specs.Prelude.{◌≡◌, ◌≢◌, ◌<◌, ◌≤◌, ◌+◌, ℕ, Some, map, IfOk, IfSome, Ok, Err, option_copied, find};
 ghost use Rattle.outside.specs.Words.{Rose, Files, file_at, Consults};
 ghost use Rattle.outside.specs.Whole.{found_in, size_of};
-ghost use Rattle.tuple_schema.specs.Schemas.{Fits};
 ghost use Rattle.tuple_schema.specs.Stops.{IfFault};
 ghost use Rattle.tuple_schema.specs.declared.memory.Stop.TheVariants as stop;
 ghost use Rattle.extractors.specs.Opening.{source_content};
 ghost use Rattle.flow_types.specs.Flows.{root_in};
-ghost use Rattle.kind_laws.specs.Wholes.{by_number};
-ghost use Rattle.kind_laws.specs.Laws.{OwnFit, SourcesFit};
+ghost use Rattle.kind_laws.specs.Laws.{HasOwnColumns, SourcesHaveColumns};
 ghost use Rattle.load_runner.specs.declared.fault.SourceFault.{SourceFault};
 ghost use Rattle.load_runner.specs.Sources.{by_depot, of_source, content_of, numbered, contents_in};
 ghost use Rattle.load_runner.specs.Asked.{asked_of, asked_bytes};
 ghost use Rattle.load_runner.specs.Jobs.{IsMade};
 
 use crate::fault::{SourceFault, SourceWhat};
-use extractors::CsvSource;
+use extractors::read_content;
 use flow_types::{Flow, Kind, Node, NodeId, Source, tree_laws};
 use kind_laws::whole;
 use outside::Depot;
+use row_batch::Batch;
 use std::alloc::Global;
-use tuple_schema::{Memory, Schema, Stop, Tuples};
+use tuple_schema::{Memory, Schema, Stop};
 
 /// The rows that the flow makes of the contents of the depot's files.
 pub fn whole_rows<D: Depot>(
     alloc: Global,
     flow: &Flow,
     depot: &mut D,
-) -> Result<Tuples, Stop<SourceFault>>
-    ensures made { IfOk result (λ rows. IsMade flow.now (D.state depot.old).files rows) }
+) -> Result<Batch, Stop<SourceFault>>
+    ensures made { IfOk result (λ whole. IsMade flow.now (D.state depot.old).files whole.rows) }
+    ensures columns { IfOk result (λ whole. IfSome (root_in flow.now.nodes) (λ root. whole.columns ≡ root.schema)) }
     ensures refused { (f : SourceFault) → result ≡ Err (stop.Fault f) → f.what ≢ by_depot
         → (files : Files) → (D.state depot.old).files ≡ Some files → contents_in flow.now.nodes files ≡ Err f }
-    ensures fit { IfOk result (λ rows. IfSome (root_in flow.now.nodes)
-        (λ root. All (λ row. Fits root.schema row) rows)) }
     ensures cause { IfFault result (λ f. f.what ≡ by_depot
         → Rose (D.state depot.old).faults (D.state depot.new).faults) }
     ensures consults { Consults (D.state depot.old) (D.state depot.new) }
@@ -51,12 +49,12 @@ fn source_lists<D: Depot>(
     alloc: Global,
     flow: &Flow,
     depot: &mut D,
-) -> Result<Vec<Tuples>, Stop<SourceFault>>
+) -> Result<Vec<Batch>, Stop<SourceFault>>
     ensures contents { IfOk result (λ lists. (files : Files) → (D.state depot.old).files ≡ Some files
-        → contents_in flow.now.nodes files ≡ Ok lists.items) }
+        → contents_in flow.now.nodes files ≡ Ok (map (λ list. list.rows) lists.items)) }
     ensures refused { (f : SourceFault) → result ≡ Err (stop.Fault f) → f.what ≢ by_depot
         → (files : Files) → (D.state depot.old).files ≡ Some files → contents_in flow.now.nodes files ≡ Err f }
-    ensures fit { IfOk result (λ lists. SourcesFit flow.now.nodes (by_number lists.items)) }
+    ensures columns { IfOk result (λ lists. SourcesHaveColumns flow.now.nodes lists.items) }
     ensures cause { IfFault result (λ f. f.what ≡ by_depot
         → Rose (D.state depot.old).faults (D.state depot.new).faults) }
     ensures consults { Consults (D.state depot.old) (D.state depot.new) }
@@ -65,9 +63,10 @@ fn source_lists<D: Depot>(
 {
     tree_laws();
     let nodes = flow.nodes();
+    let root = flow.root_node();
     let mut lists = Vec::new(alloc);
     for number in 0..nodes.len() {
-        let rows = source_rows(alloc, numbered(nodes, number), depot)?;
+        let rows = source_rows(alloc, numbered(nodes, number), &root.schema, depot)?;
         lists.push(rows)?;
     }
     Ok(lists)
@@ -80,18 +79,20 @@ fn numbered(nodes: &[Node], number: usize) -> Option<&Node>
     nodes.iter().find(|node| node.id.0 as usize == number)
 }
 
-// The content of the source, or its fault; of any other node the empty list.
+// The content of the source, or its fault; of any other node the empty list, with any columns.
 fn source_rows<D: Depot>(
     alloc: Global,
     node: Option<&Node>,
+    any: &Schema,
     depot: &mut D,
-) -> Result<Tuples, Stop<SourceFault>>
-    ensures content { IfOk result (λ rows. (files : Files) → (D.state depot.old).files ≡ Some files
-        → content_of files (option_copied node.entry) ≡ Ok rows) }
+) -> Result<Batch, Stop<SourceFault>>
+    ensures content { IfOk result (λ list. (files : Files) → (D.state depot.old).files ≡ Some files
+        → content_of files (option_copied node.entry) ≡ Ok list.rows) }
     ensures refused { (f : SourceFault) → result ≡ Err (stop.Fault f) → f.what ≢ by_depot
         → (files : Files) → (D.state depot.old).files ≡ Some files
         → content_of files (option_copied node.entry) ≡ Err f }
-    ensures fit { IfOk result (λ rows. IfSome (option_copied node.entry) (λ n. OwnFit n.kind n.schema rows)) }
+    ensures columns { IfOk result (λ list. IfSome (option_copied node.entry)
+        (λ n. HasOwnColumns n.kind n.schema (Some list))) }
     ensures cause { IfFault result (λ f. f.what ≡ by_depot
         → Rose (D.state depot.old).faults (D.state depot.new).faults) }
     ensures consults { Consults (D.state depot.old) (D.state depot.new) }
@@ -99,11 +100,11 @@ fn source_rows<D: Depot>(
         → (D.state depot.new).served ≤ (D.state depot.old).served + asked_of files (option_copied node.entry) }
 {
     let Some(node) = node else {
-        return Ok(Tuples::new(alloc));
+        return Ok(Batch::new(alloc, any)?);
     };
     match &node.kind {
         Kind::Source(source) => read_rows(alloc, depot, node.id, source, &node.schema),
-        Kind::Select { .. } | Kind::Project { .. } => Ok(Tuples::new(alloc)),
+        Kind::Select { .. } | Kind::Project { .. } => Ok(Batch::new(alloc, any)?),
     }
 }
 
@@ -114,29 +115,29 @@ fn read_rows<D: Depot>(
     id: NodeId,
     source: &Source,
     schema: &Schema,
-) -> Result<Tuples, Stop<SourceFault>>
-    ensures content { IfOk result (λ rows. (files : Files) → (D.state depot.old).files ≡ Some files
+) -> Result<Batch, Stop<SourceFault>>
+    ensures content { IfOk result (λ list. (files : Files) → (D.state depot.old).files ≡ Some files
         → of_source id (source_content source.now.any_header schema.now
-        (found_in 268435456 (file_at files source.now.file))) ≡ Ok rows) }
+        (found_in 268435456 (file_at files source.now.file))) ≡ Ok list.rows) }
     ensures refused { (f : SourceFault) → result ≡ Err (stop.Fault f) → f.what ≢ by_depot
         → (files : Files) → (D.state depot.old).files ≡ Some files
         → of_source id (source_content source.now.any_header schema.now
         (found_in 268435456 (file_at files source.now.file))) ≡ Err f }
-    ensures fit { IfOk result (λ rows. All (λ row. Fits schema.now row) rows) }
+    ensures columns { IfOk result (λ list. list.columns ≡ schema.now) }
     ensures cause { IfFault result (λ f. f.what ≡ by_depot
         → Rose (D.state depot.old).faults (D.state depot.new).faults) }
     ensures consults { Consults (D.state depot.old) (D.state depot.new) }
     ensures served { (files : Files) → (D.state depot.old).files ≡ Some files
         → (D.state depot.new).served ≤ (D.state depot.old).served + size_of (file_at files source.now.file) }
 {
-    match CsvSource::open(
+    match read_content(
         alloc,
         depot,
         source.file.as_str(),
         schema,
         source.any_header,
     ) {
-        Ok(opened) => Ok(opened.tuples(alloc)?),
+        Ok(list) => Ok(list),
         Err(Stop::Memory) => Err(Stop::Memory),
         Err(Stop::Fault(fault)) => Err(Stop::Fault(SourceFault {
             source: id,

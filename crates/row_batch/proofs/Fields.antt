@@ -122,7 +122,7 @@ value_size (value.Int n) encodable = omega arith
 value_size (value.Dec n) encodable = omega arith
 value_size (value.Text text) encodable = let short : length text ≤ 4096 = encodable.1 in omega arith
 
-row_size : (row : List Value) → All IsEncodable row → length (row_bytes row) ≤ 4099 * length row
+pub row_size : (row : List Value) → All IsEncodable row → length (row_bytes row) ≤ 4099 * length row
 row_size [] encodable = omega arith
 row_size (v ∷ vs) encodable =
     let first = value_size v (All-head IsEncodable v vs encodable) in

@@ -1,5 +1,5 @@
 -- Rows in one buffer of bytes, with the places of the rows in it and of the values in each row.
-use Rattle.std.specs.Prelude.{ℕ, zero, suc, List, [], ◌∷◌, ◌+◌, ◌≤◌, ◌≡◌, length, take, drop, All, Result, Ok, Err, ◌==◌, if◌then◌else◌}
+use Rattle.std.specs.Prelude.{ℕ, zero, suc, List, [], ◌∷◌, ◌++◌, ◌+◌, ◌≤◌, ◌≡◌, length, slice_get, IfSome, IsTrue, take, drop, All, Result, Ok, Err, ◌==◌, if◌then◌else◌}
 use Rattle.std.specs.List.{flat_map}
 use Rattle.std.specs.Int.{w64, from_be_bytes, cast_signed}
 use Rattle.tuple_schema.specs.declared.value.Value.{Value}
@@ -7,14 +7,21 @@ use Rattle.tuple_schema.specs.declared.value.Value.TheVariants as value
 use Rattle.tuple_schema.specs.declared.schema.Column.{Column}
 use Rattle.tuple_schema.specs.declared.schema.ColumnKind.{ColumnKind}
 use Rattle.tuple_schema.specs.declared.schema.ColumnKind.TheVariants as kind
+use Rattle.tuple_schema.specs.Schemas.{is_of}
 use Rattle.row_codec.specs.declared.decode.RowFault.{RowFault}
 use Rattle.row_codec.specs.Rows.{value_bytes, row_bytes, rows_bytes}
-use Rattle.row_codec.specs.Decoding.{row_at, IsRowOf, IsEncodable}
+use Rattle.row_codec.specs.Decoding.{row_at, BeginsWithRow, IsRowOf, IsEncodable}
 
 -- what a batch is seen as
 pub record BatchOf : Type 0 where
   pub columns : List Column
   pub rows : List (List Value)
+
+-- what a batch that is made field by field is seen as: its whole rows, and the values of the row that is begun
+pub record BuilderOf : Type 0 where
+  pub columns : List Column
+  pub rows : List (List Value)
+  pub begun : List Value
 
 -- where each item ends, if the first one begins at this place and each next one where the one before it ends
 abbrev pub ends_from : {X : Type 0} → (X → List ℕ) → ℕ → List X → List ℕ
@@ -42,7 +49,6 @@ rows_in columns (suc n) bytes = row_and (rows_in columns n) (row_at columns byte
 -- the buffer holds the rows one after the other, with the places of each row and those of each row's values
 pub record IsPacked (columns : List Column) (rows : List (List Value)) (count : ℕ)
     (bytes starts inner : List ℕ) : Type 0 where
-  pub few : length rows ≤ 4096
   pub counted : count ≡ length rows
   pub each : All (IsRowOf columns) rows
   pub bytes_are : bytes ≡ rows_bytes rows
@@ -64,6 +70,29 @@ pub record IsPackedRow (columns : List Column) (row : List Value) (bytes inner :
   pub row_is : IsRowOf columns row
   pub bytes_are : bytes ≡ row_bytes row
   pub inner_are : inner ≡ value_places row
+
+-- the value may stand in the next column of the row that is begun
+abbrev pub FitsNext : List Column → List Value → Value → Type 0
+FitsNext columns begun v = IfSome (slice_get columns (length begun)) (λ c. IsTrue (is_of c.kind c.nullable v))
+
+-- the buffer holds whole rows, and behind them so many first values of the row that is begun, with the places of all
+pub record IsBuilt (columns : List Column) (rows : List (List Value)) (begun : List Value) (count start size : ℕ)
+    (bytes starts inner : List ℕ) : Type 0 where
+  pub narrow : length columns ≤ 64
+  pub whole : IsPacked columns rows count (rows_bytes rows) starts (flat_map value_places rows)
+  pub started : start ≡ length (rows_bytes rows)
+  pub sized : size ≡ length begun
+  pub begun_is : IsRowOf (take size columns) begun
+  pub bytes_are : bytes ≡ rows_bytes rows ++ row_bytes begun
+  pub inner_are : inner ≡ flat_map value_places rows ++ value_places begun
+
+-- a row of the columns stands at the front of the bytes and takes so many of them, and the places of its values came
+-- behind the old ones
+pub record TakesPlaces (columns : List Column) (front : List ℕ) (len : ℕ) (old new : List ℕ) : Type 0 where
+  pub row : List Value
+  pub begins : BeginsWithRow columns front len row
+  pub encodable : All IsEncodable row
+  pub placed : new ≡ old ++ value_places row
 
 -- the number or text behind the first byte
 abbrev pub content_held : ColumnKind → List ℕ → Value

@@ -1,28 +1,33 @@
 // Batches of rows in one buffer.
-ghost use Rattle.std.specs.Prelude.{◌≡◌, ◌<◌, ◌≤◌, ◌*◌, ◌∷◌, ◌++◌, [], length, IfOk, OnOk, OnErr, Some, slice_get};
-ghost use Rattle.tuple_schema.specs.Schemas.{Fits, IsSchema};
+ghost use Rattle.std.specs.Prelude.{◌≡◌, ◌<◌, ◌∷◌, ◌++◌, List, [], length, All, IfOk, OnOk, OnErr, Err, Some, slice_get};
+ghost use Rattle.tuple_schema.specs.Schemas.{Fits};
+ghost use Rattle.tuple_schema.specs.Stops.{IfFault};
+ghost use Rattle.tuple_schema.specs.declared.value.Value.{Value as Item};
 ghost use Rattle.row_codec.specs.Rows.{rows_bytes};
+ghost use Rattle.row_codec.specs.Decoding.{row_at, IsRowOf, BeginsWithRow};
 
 use crate::RowView;
-use crate::packing::append_row;
+use crate::packing::{append_front, append_row};
+use row_codec::RowFault;
 use std::alloc::Global;
 use std::marker::Model;
-use tuple_schema::{Fields, Memory, Schema};
+use tuple_schema::{Fields, Memory, Schema, Stop};
 
-/// The most rows of a batch.
+/// The most rows that `Rows::fill` brings. A batch may have more.
 pub const MAX_ROWS: usize = 4096;
 
-/// Rows of a schema, in one buffer. A contract sees it as the schema's columns and a list of tuples.
+/// Rows of a schema, as many as memory holds, in one buffer. A contract sees it as the schema's columns and a list of
+/// tuples.
 #[derive(Drop)]
 pub struct Batch {
-    schema: Schema,
-    count: usize,
+    pub(crate) schema: Schema,
+    pub(crate) count: usize,
     // The rows as a table has them, one after the other.
-    bytes: Vec<u8>,
+    pub(crate) bytes: Vec<u8>,
     // Where each row begins, and where the last one ends.
-    starts: Vec<usize>,
+    pub(crate) starts: Vec<usize>,
     // For each row where its values begin in it, and where the last one ends: columns + 1 places.
-    places: Vec<u32>,
+    pub(crate) places: Vec<u32>,
 }
 
 impl Model for Batch {
@@ -55,9 +60,11 @@ impl Batch {
         })
     }
 
+    /// How many rows there are. Each is one of the columns.
     pub fn len(&self) -> usize
         ensures len { result ≡ length self.now.rows }
-        ensures few { result ≤ 4096 }
+        ensures each { All (IsRowOf self.now.columns) self.now.rows }
+        ensures fit { All (Fits self.now.columns) self.now.rows }
     {
         self.count
     }
@@ -91,6 +98,7 @@ impl Batch {
     pub fn row(&self, i: usize) -> RowView<'_>
         requires { i < length self.now.rows }
         ensures row { slice_get self.now.rows i ≡ Some result }
+        ensures row_of { IsRowOf self.now.columns result }
         ensures fits { Fits self.now.columns result }
     {
         let columns = self.schema.columns();
@@ -108,7 +116,6 @@ impl Batch {
     /// Makes the row the new last one.
     pub fn push<F: Fields>(&mut self, row: &F) -> Result<(), Memory>
         requires fits { Fits self.old.columns (F.tuple row.now) }
-        requires room { length self.old.rows < 4096 }
         ensures ok { OnOk result (self.new.rows ≡ self.old.rows ++ F.tuple row.now ∷ []) }
         ensures err { OnErr result (self.new.rows ≡ self.old.rows) }
         ensures columns { self.new.columns ≡ self.old.columns }
@@ -138,7 +145,6 @@ impl Batch {
     /// Makes the row of a batch the new last one. Its bytes are copied as they are.
     pub fn push_view(&mut self, row: &RowView<'_>) -> Result<(), Memory>
         requires fits { Fits self.old.columns row.now }
-        requires room { length self.old.rows < 4096 }
         ensures ok { OnOk result (self.new.rows ≡ self.old.rows ++ row.now ∷ []) }
         ensures err { OnErr result (self.new.rows ≡ self.old.rows) }
         ensures columns { self.new.columns ≡ self.old.columns }
@@ -154,6 +160,36 @@ impl Batch {
                 self.bytes.truncate(bytes);
                 self.places.truncate(places);
                 Err(Memory)
+            }
+        }
+    }
+
+    /// Makes the row at the front of the bytes the new last one, and answers how many bytes it has. Any bytes may
+    /// follow. The row's bytes are copied as they are.
+    pub fn push_bytes(&mut self, bytes: &[u8]) -> Result<usize, Stop<RowFault>>
+        ensures row { IfOk result (λ len. (row : List Item) × BeginsWithRow self.old.columns bytes.now len row
+            × (self.new.rows ≡ self.old.rows ++ row ∷ [])) }
+        ensures fault { IfFault result (λ fault. row_at self.old.columns bytes.now ≡ Err fault) }
+        ensures err { OnErr result (self.new.rows ≡ self.old.rows) }
+        ensures columns { self.new.columns ≡ self.old.columns }
+    {
+        let before = self.bytes.len();
+        let places = self.places.len();
+        match append_front(
+            bytes,
+            self.schema.columns(),
+            &mut self.bytes,
+            &mut self.starts,
+            &mut self.places,
+        ) {
+            Ok(len) => {
+                self.count += 1;
+                Ok(len)
+            }
+            Err(stop) => {
+                self.bytes.truncate(before);
+                self.places.truncate(places);
+                Err(stop)
             }
         }
     }

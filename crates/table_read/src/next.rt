@@ -12,7 +12,6 @@ use crate::blocks::{HEAD, read_block};
 use commit_disk::{Journal, TableFault};
 use outside::Disk;
 use row_batch::Batch;
-use row_codec::decode_row;
 use std::alloc::Global;
 use tuple_schema::Stop;
 
@@ -73,21 +72,14 @@ fn read_rows<K: Disk>(
 {
     let mut buffer = Vec::new(alloc);
     let head = read_block(disk, journal, at, &mut buffer)?;
-    take_rows(alloc, &buffer, head.count(), at + HEAD, into)?;
+    take_rows(&buffer, head.count(), at + HEAD, into)?;
     Ok(at + HEAD + head.len() as u64)
 }
 
 // Takes the bytes from that place on into an empty batch, as exactly so many rows.
-fn take_rows(
-    alloc: Global,
-    bytes: &[u8],
-    count: u32,
-    place: u64,
-    into: &mut Batch,
-) -> Result<(), Stop<TableFault>>
+fn take_rows(bytes: &[u8], count: u32, place: u64, into: &mut Batch) -> Result<(), Stop<TableFault>>
     requires place { place + length bytes.now < 2 ^ 64 }
     requires empty { into.old.rows ≡ [] }
-    requires few { count ≤ 4096 }
     ensures rows { TakesRows result into.new.rows (rows_at into.old.columns count place bytes.now) }
     ensures columns { into.new.columns ≡ into.old.columns }
     ensures no_disk { IfFault result NoDisk }
@@ -95,7 +87,7 @@ fn take_rows(
     let mut rest = bytes;
     let mut at = place;
     for _ in 0..count {
-        let len = take_row(alloc, rest, at, into)?;
+        let len = take_row(rest, at, into)?;
         rest = rest.split_at(len).1;
         at += len as u64;
     }
@@ -106,21 +98,12 @@ fn take_rows(
 }
 
 // Takes the row at the front into the batch, and answers how many bytes it has. The bytes begin at that place.
-fn take_row(
-    alloc: Global,
-    bytes: &[u8],
-    place: u64,
-    into: &mut Batch,
-) -> Result<usize, Stop<TableFault>>
-    requires room { length into.old.rows < 4096 }
+fn take_row(bytes: &[u8], place: u64, into: &mut Batch) -> Result<usize, Stop<TableFault>>
     ensures row { TakesRow into.old.columns place bytes.now into.old.rows into.new.rows result }
     ensures columns { into.new.columns ≡ into.old.columns }
 {
-    match decode_row(alloc, bytes, into.schema()) {
-        Ok((row, len)) => {
-            into.push(&row)?;
-            Ok(len)
-        }
+    match into.push_bytes(bytes) {
+        Ok(len) => Ok(len),
         Err(Stop::Memory) => Err(Stop::Memory),
         Err(Stop::Fault(_)) => Err(Stop::Fault(TableFault::NotATable { at: place })),
     }

@@ -1,12 +1,18 @@
 -- One row more in a block.
-use Rattle.std.proofs.Common.{◌≡◌, ◌<◌, ◌+◌, ℕ, List, [], ◌∷◌, ◌++◌, length, take, drop, get_or, sym, ap, ◌∙◌, length-append}
-use Rattle.std.proofs.lemmas.List.{take_more, drop_more, append-nil}
+use Rattle.std.proofs.Common.{◌≡◌, ◌<◌, ◌+◌, ℕ, List, [], ◌∷◌, ◌++◌, length, take, drop, get_or, Some, sym, ap, ◌∙◌, length-append}
+use Rattle.std.specs.Prelude.{slice_get}
+use Rattle.std.proofs.lemmas.List.{take_more, drop_more, get_or-drop, append-nil}
+use Rattle.std.proofs.lemmas.Option.{get_or_from_slice_get}
 use Rattle.std.proofs.lemmas.List.Concat.{flat_map-append}
 use Rattle.tuple_schema.specs.declared.value.Value.{Value}
 use Rattle.row_codec.specs.Rows.{row_bytes, rows_bytes}
 use Rattle.commit_disk.specs.Table.{Stored}
 use Rattle.commit_disk.specs.Buffer.{with_row}
 use Rattle.table_write.specs.Rows.{stored_of}
+
+-- a row behind the first ones
+pub row_behind : (rows : List (List Value)) (from i : ℕ) (row : List Value) → slice_get rows (from + i) ≡ Some row → row ≡ get_or (drop from rows) i row
+row_behind rows from i row is = sym (get_or-drop from rows i row ∙ get_or_from_slice_get rows (from + i) row row is)
 
 module _ (rows : List (List Value)) (i : ℕ) (row : List Value) (below : i < length rows) (is : row ≡ get_or rows i row) where
   -- the next row

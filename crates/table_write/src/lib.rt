@@ -1,8 +1,8 @@
 //! Rows as blocks of a table file.
 //!
-//! Stands on `commit_disk`, which commits a block, and on `row_codec`, which encodes a row. Read
-//! `specs/Cut.antt` first: `IsCut` says which blocks rows are cut into. Then `specs/Adds.antt`, which
-//! says what stands in the table in the midst of it.
+//! Stands on `commit_disk`, which commits a block, on `row_batch`, in whose batches the rows come as the bytes that
+//! they have in a table, and on `row_codec`, which says what these are. Read `specs/Cut.antt` first: `IsCut` says which
+//! blocks rows are cut into. Then `specs/Adds.antt`, which says what stands in the table in the midst of it.
 //!
 //! Promised of an honest disk on which nothing is pending: at every moment of `Writer::append` a crash
 //! leaves the old blocks and the first of the new ones; Ok comes where all of them and the end block

@@ -1,7 +1,6 @@
 // Writing rows to a table.
-ghost use Rattle.std.specs.Prelude.{◌≡◌, ◌≤◌, ◌<◌, ◌+◌, ◌^◌, ℕ, List, length, IsTrue, IsErrOf, OnOk, All, true, false};
+ghost use Rattle.std.specs.Prelude.{◌≡◌, ◌≤◌, ◌<◌, ◌+◌, ◌^◌, ℕ, List, length, drop, IsTrue, IsErrOf, OnOk, All, true, false};
 ghost use Rattle.outside.specs.Words.{Rose, Elapses, IsSettled, LeftBetween};
-ghost use Rattle.tuple_schema.specs.Schemas.{Fits};
 ghost use Rattle.row_codec.specs.Decoding.{IsRowOf};
 ghost use Rattle.commit_disk.specs.Table.{Stored, HoldsUpTo, rows_block, end_block};
 ghost use Rattle.commit_disk.specs.Journal.{after, Commits};
@@ -11,12 +10,13 @@ ghost use Rattle.table_write.specs.Cut.{cut};
 ghost use Rattle.table_write.specs.Adds.{with_blocks, LeavesFronts, StopsBetween, behind, HasRoom, AllHaveRoom, HasAdded, IsFilled};
 
 use crate::fill::fill;
-use commit_disk::{Block, Journal, MAX_ROW_BYTES, MAX_ROWS, fits};
+use commit_disk::{Block, Journal, MAX_ROWS, fits};
 use outside::{Disk, Failed, MAX_SIZE};
+use row_batch::Batch;
 use std::alloc::Global;
 use std::marker::Model;
 use thiserror::Error;
-use tuple_schema::{Memory, Schema, Tuple};
+use tuple_schema::Memory;
 
 /// Why rows can't be written.
 #[derive(Clone, Copy, Debug, PartialEq, Eq, Error)]
@@ -37,23 +37,18 @@ impl From<Failed> for WriteFault {
     }
 }
 
-/// The memory for writing: a block that waits for its commit, and room for the bytes of any row. A
-/// contract sees nothing of it.
+/// The memory for writing: a block that waits for its commit. A contract sees nothing of it.
 #[derive(Drop)]
 pub struct Writer {
     block: Block,
-    row: Vec<u8>,
 }
 
 impl Model for Writer {
-    ghost use Rattle.std.specs.Prelude.{◌≤◌, ⊤};
-    ghost use Rattle.std.specs.Vec.{vec_capacity};
+    ghost use Rattle.std.specs.Prelude.{⊤};
 
     ghost Value = { ⊤ };
 
     ghost view = { λ w. tt };
-
-    ghost invariant = { λ w. 262336 ≤ vec_capacity w.row };
 }
 
 impl Writer {
@@ -61,55 +56,59 @@ impl Writer {
     pub fn new(alloc: Global) -> Result<Writer, Memory> {
         Ok(Writer {
             block: Block::new(alloc)?,
-            row: Vec::with_capacity(alloc, MAX_ROW_BYTES as usize)?,
         })
     }
 
-    /// Commits the rows behind those of the table, in blocks of `batch` rows or 4,194,304 bytes, and
-    /// ends the table. At Disk attach the table again. At Full it holds the blocks that have room.
+    /// Commits the rows from that place on behind those of the table, in blocks of `batch` rows or
+    /// 4,194,304 bytes, and ends the table. At Disk attach the table again. At Full it holds the blocks
+    /// that have room.
     pub fn append<K: Disk>(
         &mut self,
         journal: &mut Journal,
         disk: &mut K,
-        schema: &Schema,
-        rows: &[Tuple],
+        rows: &Batch,
+        from: usize,
         batch: u32,
     ) -> Result<(), WriteFault>
         requires sound { IsTrue journal.old.sound }
         requires unended { journal.old.ended ≡ false }
         requires place { journal.old.gate < (K.state disk.old).size }
-        requires fit { All (λ row. Fits schema.now row) rows.now }
+        requires within { from ≤ length rows.now.rows }
         requires some { 1 ≤ batch }
         requires few { batch ≤ MAX_ROWS }
 
-        ensures of_columns { OnOk result (All (IsRowOf schema.now) rows.now) }
-        ensures moved { OnOk result (journal.new ≡ after (behind journal.old (cut batch rows.now)) end_block) }
-        ensures count { OnOk result (journal.new.count ≡ journal.old.count + length rows.now) }
+        ensures of_columns { OnOk result (All (IsRowOf rows.now.columns) (drop from rows.now.rows)) }
+        ensures moved { OnOk result
+            (journal.new ≡ after (behind journal.old (cut batch (drop from rows.now.rows))) end_block) }
+        ensures count { OnOk result (journal.new.count ≡ journal.old.count + length (drop from rows.now.rows)) }
         ensures done { OnOk result (IsTrue (K.state disk.old).honest → (text : List ℕ) (olds : List Stored)
             → HoldsUpTo journal.old.gate (K.state disk.old).file text olds false
-            → HoldsUpTo journal.new.gate (K.state disk.new).file text (with_blocks olds (cut batch rows.now)) true) }
+            → HoldsUpTo journal.new.gate (K.state disk.new).file text
+            (with_blocks olds (cut batch (drop from rows.now.rows))) true) }
         ensures settled { OnOk result (IsTrue (K.state disk.old).honest → IsSettled (K.state disk.new)) }
         ensures size { OnOk result (journal.new.gate < (K.state disk.new).size) }
 
         // A crash at any moment of the call leaves the old blocks and the first of the new ones.
         ensures any_moment { IsTrue (K.state disk.old).honest → IsSettled (K.state disk.old)
             → (text : List ℕ) (olds : List Stored) → HoldsUpTo journal.old.gate (K.state disk.old).file text olds false
-            → LeavesFronts text schema.now olds (cut batch rows.now) (K.state disk.old) (K.state disk.new) }
+            → LeavesFronts text rows.now.columns olds (cut batch (drop from rows.now.rows)) (K.state disk.old)
+            (K.state disk.new) }
         // Where the disk failed, each image holds the old blocks and so many of the new ones, or one step more.
         ensures stops { IsErrOf result fault.Disk → IsTrue (K.state disk.old).honest → IsSettled (K.state disk.old)
             → (text : List ℕ) (olds : List Stored) → HoldsUpTo journal.old.gate (K.state disk.old).file text olds false
-            → StopsBetween text olds (cut batch rows.now) (K.state disk.new).may_leave }
+            → StopsBetween text olds (cut batch (drop from rows.now.rows)) (K.state disk.new).may_leave }
         ensures elapses { Elapses (K.state disk.old) (K.state disk.new) }
 
         // Unless the disk fails, Ok comes exactly where all blocks have room, and else Full.
-        ensures all_fit { OnOk result (AllHaveRoom journal.old.gate (cut batch rows.now)) }
+        ensures all_fit { OnOk result (AllHaveRoom journal.old.gate (cut batch (drop from rows.now.rows))) }
         ensures full { IsErrOf result fault.Full
-            → IsFilled schema.now (cut batch rows.now) journal.old journal.new (K.state disk.old) (K.state disk.new) }
+            → IsFilled rows.now.columns (cut batch (drop from rows.now.rows)) journal.old journal.new (K.state disk.old)
+            (K.state disk.new) }
 
         ensures unsound { IsErrOf result fault.Disk → journal.new.sound ≡ false }
         ensures cause { IsErrOf result fault.Disk → Rose (K.state disk.old).faults (K.state disk.new).faults }
     {
-        self.append_blocks(journal, disk, schema, rows, batch)?;
+        self.append_blocks(journal, disk, rows, from, batch)?;
         if !fits(journal.gate(), 0) {
             return Err(WriteFault::Full);
         }
@@ -117,45 +116,47 @@ impl Writer {
         Ok(())
     }
 
-    // Commits the rows in blocks.
+    // Commits the rows from that place on in blocks.
     fn append_blocks<K: Disk>(
         &mut self,
         journal: &mut Journal,
         disk: &mut K,
-        schema: &Schema,
-        rows: &[Tuple],
+        rows: &Batch,
+        from: usize,
         batch: u32,
     ) -> Result<(), WriteFault>
         requires sound { IsTrue journal.old.sound }
         requires unended { journal.old.ended ≡ false }
         requires place { journal.old.gate < (K.state disk.old).size }
-        requires fit { All (λ row. Fits schema.now row) rows.now }
+        requires within { from ≤ length rows.now.rows }
         requires some { 1 ≤ batch }
         requires few { batch ≤ MAX_ROWS }
 
-        ensures added { OnOk result (HasAdded schema.now (cut batch rows.now) journal.old journal.new (K.state disk.old)
-            (K.state disk.new)) }
+        ensures added { OnOk result (HasAdded rows.now.columns (cut batch (drop from rows.now.rows)) journal.old
+            journal.new (K.state disk.old) (K.state disk.new)) }
         ensures any_moment { IsTrue (K.state disk.old).honest → IsSettled (K.state disk.old)
             → (text : List ℕ) (olds : List Stored) → HoldsUpTo journal.old.gate (K.state disk.old).file text olds false
-            → LeavesFronts text schema.now olds (cut batch rows.now) (K.state disk.old) (K.state disk.new) }
+            → LeavesFronts text rows.now.columns olds (cut batch (drop from rows.now.rows)) (K.state disk.old)
+            (K.state disk.new) }
         ensures stops { IsErrOf result fault.Disk → IsTrue (K.state disk.old).honest → IsSettled (K.state disk.old)
             → (text : List ℕ) (olds : List Stored) → HoldsUpTo journal.old.gate (K.state disk.old).file text olds false
-            → StopsBetween text olds (cut batch rows.now) (K.state disk.new).may_leave }
+            → StopsBetween text olds (cut batch (drop from rows.now.rows)) (K.state disk.new).may_leave }
         ensures elapses { Elapses (K.state disk.old) (K.state disk.new) }
 
-        ensures each_fits { OnOk result ((count : ℕ) → count < length (cut batch rows.now)
-            → HasRoom journal.old.gate (cut batch rows.now) count) }
+        ensures each_fits { OnOk result ((count : ℕ) → count < length (cut batch (drop from rows.now.rows))
+            → HasRoom journal.old.gate (cut batch (drop from rows.now.rows)) count) }
         ensures full { IsErrOf result fault.Full
-            → IsFilled schema.now (cut batch rows.now) journal.old journal.new (K.state disk.old) (K.state disk.new) }
+            → IsFilled rows.now.columns (cut batch (drop from rows.now.rows)) journal.old journal.new (K.state disk.old)
+            (K.state disk.new) }
 
         ensures unsound { IsErrOf result fault.Disk → journal.new.sound ≡ false }
         ensures cause { IsErrOf result fault.Disk → Rose (K.state disk.old).faults (K.state disk.new).faults }
     {
-        let mut rest = rows;
-        while !rest.is_empty() {
-            let count = fill(&mut self.block, &mut self.row, schema, rest, batch);
+        let mut at = from;
+        while at < rows.len() {
+            let count = fill(&mut self.block, rows, at, batch);
             commit_block(journal, disk, &self.block)?;
-            rest = rest.split_at(count).1;
+            at += count;
         }
         Ok(())
     }

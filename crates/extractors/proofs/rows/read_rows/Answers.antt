@@ -5,10 +5,10 @@ use Rattle.extractors.specs.Sources.{good_rows}
 use Rattle.extractors.proofs.SourceLemmas.{one_read, none_good}
 use Rattle.extractors.proofs.rows.read_rows.Goals as goal
 
-pub push-requires-clause-fits : goal.push-requires-clause-fits
-push-requires-clause-fits c =
+pub push-requires : goal.push-requires
+push-requires c =
     let next = rw c.if-not-branch.false at c.in_ok-next_record.ensures.next in
-    (one_read _ _ _ _ _ next c.loop-reader.invariant.goes.good c.loop-reader.invariant.fit).fit
+    record { fits = (one_read _ _ _ _ _ next c.loop-reader.invariant.goes.good c.loop-reader.invariant.fit).fit }
 
 pub loop-reader-preserved : goal.loop-reader-preserved
 loop-reader-preserved c =

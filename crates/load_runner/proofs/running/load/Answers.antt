@@ -1,10 +1,8 @@
-use Rattle.std.proofs.Common.{◌≡◌, ◌∙◌, List, ℕ, All, Bool, Result, Ok, true, Err, drop, length, ap, sym, subst}
+use Rattle.std.proofs.Common.{◌≡◌, ◌∙◌, List, ℕ, Bool, Result, Ok, true, Err, drop, length, ap, sym, subst}
 use Rattle.std.specs.Bool.{⊤}
-use Rattle.std.proofs.lemmas.List.Elements.{All-drop}
 use Rattle.std.proofs.lemmas.Result.{err_from_is_err_and}
 use Rattle.outside.specs.Words.{IsSettled}
 use Rattle.outside.specs.Moments.{time_on}
-use Rattle.tuple_schema.specs.Schemas.{Fits}
 use Rattle.tuple_schema.specs.declared.memory.Stop.{Stop}
 use Rattle.tuple_schema.specs.declared.memory.Stop.TheVariants.{Memory}
 use Rattle.tuple_schema.specs.declared.schema.Column.{Column}
@@ -66,11 +64,6 @@ finish-requires-clause-start g c = λ honest.
     let start = begun c.in-Ok.found _ c.args.text.now _ (c.in-Ok.ensures.found (sym c.open_table.ensures.elapses.honest ∙ honest)) in
     (start.olds, start.at (sym c.if-is_ended.ensures))
 
-pub finish-requires-clause-fit : goal.finish-requires-clause-fit
-finish-requires-clause-fit g c =
-    let fit : All (λ row. Fits c.root_node-root.result.now.schema row) c.in-Ok-whole_rows.rows = rw (← c.root_node-root.ensures.last) at c.in-Ok-whole_rows.ensures.fit in
-    rw (c.behind-missing.ensures, c.rows-2.ensures) (All-drop (λ row. Fits c.root_node-root.result.now.schema row) c.count_of-before.result c.in-Ok-whole_rows.rows fit)
-
 pub returns-in-Err-whole_rows : goal.returns-in-Err-whole_rows
 returns-in-Err-whole_rows g c =
     let old = g.K.Disk.state c.args.disk.now in
@@ -119,12 +112,14 @@ returns-in-Ok-finish g c =
     let depot = g.D.Depot.state c.args.depot.now in
     let still = g.D.Depot.state c.whole_rows.new.depot in
     let job : Job = record { flow = c.args.flow.now; text = c.args.text.now; batch = c.args.batch } in
-    let whole = c.in-Ok-whole_rows.rows in
+    let whole = c.in-Ok-whole_rows.whole.rows in
     let made = c.in-Ok-whole_rows.ensures.made in
     let began = began_of job c.in-Ok.found old mid c.root_node-root.result.now c.root_node-root.ensures.last c.open_table.ensures.elapses c.open_table.ensures.spares c.in-Ok.ensures.settled c.in-Ok.ensures.found c.if-is_ended.ensures in
-    let missing : c.behind-missing.result.now ≡ drop (count_of c.in-Ok.found) whole =
-    c.behind-missing.ensures ∙ ap (drop c.count_of-before.result) c.rows-2.ensures ∙ ap (λ n. drop n whole) c.count_of-before.ensures in
-    let is_missing = missing_is job c.in-Ok.found whole c.root_node-root.result.now c.root_node-root.ensures.last c.behind-missing.result.now missing in
+    let missing : drop c.place_behind-from.result whole ≡ drop (count_of c.in-Ok.found) whole =
+    c.place_behind-from.ensures.behind ∙ ap (λ n. drop n whole) c.count_of-before.ensures in
+    let columns : c.in-Ok-whole_rows.whole.columns ≡ root_columns c.args.flow.now.nodes =
+    (rw (← c.root_node-root.ensures.last) at c.in-Ok-whole_rows.ensures.columns) ∙ ap columns_of_last c.root_node-root.ensures.last in
+    let is_missing = missing_is job c.in-Ok.found c.in-Ok-whole_rows.whole columns c.place_behind-from.result missing in
     let ran = has_added job depot.files c.in-Ok.found old mid new began c.finish.ensures.elapses whole made
     (is_missing (λ adding. IsSettled mid → OfOlds adding mid (λ olds. LeavesGrown adding olds mid new)) c.finish.ensures.any_moment) in
     let root = c.root_node-root.result.now in
@@ -153,12 +148,14 @@ returns g c =
     let depot = g.D.Depot.state c.args.depot.now in
     let still = g.D.Depot.state c.whole_rows.new.depot in
     let job : Job = record { flow = c.args.flow.now; text = c.args.text.now; batch = c.args.batch } in
-    let whole = c.in-Ok-whole_rows.rows in
+    let whole = c.in-Ok-whole_rows.whole.rows in
     let made = c.in-Ok-whole_rows.ensures.made in
     let began = began_of job c.in-Ok.found old mid c.root_node-root.result.now c.root_node-root.ensures.last c.open_table.ensures.elapses c.open_table.ensures.spares c.in-Ok.ensures.settled c.in-Ok.ensures.found c.if-is_ended.ensures in
-    let missing : c.behind-missing.result.now ≡ drop (count_of c.in-Ok.found) whole =
-    c.behind-missing.ensures ∙ ap (drop c.count_of-before.result) c.rows-2.ensures ∙ ap (λ n. drop n whole) c.count_of-before.ensures in
-    let is_missing = missing_is job c.in-Ok.found whole c.root_node-root.result.now c.root_node-root.ensures.last c.behind-missing.result.now missing in
+    let missing : drop c.place_behind-from.result whole ≡ drop (count_of c.in-Ok.found) whole =
+    c.place_behind-from.ensures.behind ∙ ap (λ n. drop n whole) c.count_of-before.ensures in
+    let columns : c.in-Ok-whole_rows.whole.columns ≡ root_columns c.args.flow.now.nodes =
+    (rw (← c.root_node-root.ensures.last) at c.in-Ok-whole_rows.ensures.columns) ∙ ap columns_of_last c.root_node-root.ensures.last in
+    let is_missing = missing_is job c.in-Ok.found c.in-Ok-whole_rows.whole columns c.place_behind-from.result missing in
     let ran = has_added job depot.files c.in-Ok.found old mid new began c.finish.ensures.elapses whole made
     (is_missing (λ adding. IsSettled mid → OfOlds adding mid (λ olds. LeavesGrown adding olds mid new)) c.finish.ensures.any_moment) in
     let s = c.in-Err-finish.stop in

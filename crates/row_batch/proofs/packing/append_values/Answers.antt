@@ -12,6 +12,6 @@ loop-i-preserved g c =
     record {
       bytes = grind (arith, common_steps);
       places = grind (arith, common_steps);
-      encodable = encodable_more _ _ _ below c.field.ensures.value c.loop-i.invariant.encodable c.in_ok-encode_field.ensures.encodable;
+      encodable = encodable_more _ _ _ below c.field.ensures.value c.loop-i.invariant.encodable c.in_ok-append_value.ensures.encodable;
       short = grind (arith, common_steps);
     }

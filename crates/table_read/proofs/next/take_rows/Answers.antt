@@ -1,4 +1,4 @@
-use Rattle.std.proofs.Common.{◌≡◌, ◌∙◌, ◌-◌, ◌+◌, ◌<◌, ◌∷◌, [], length, ap, sym, arith, length-append}
+use Rattle.std.proofs.Common.{◌≡◌, ◌∙◌, ◌-◌, ◌+◌, ◌<◌, length, sym, arith}
 use Rattle.std.proofs.lemmas.Grind.{common_steps}
 use Rattle.std.proofs.lemmas.Result.{err_from_is_err_and}
 use Rattle.table_read.specs.Rows.{rows_at}
@@ -19,7 +19,6 @@ loop-preserved c =
     record {
       size = omega (arith, c.loop.invariant.size, c.split_at.ensures.back_len);
       columns = c.in_ok-len.ensures.columns ∙ c.loop.invariant.columns;
-      taken = omega (arith, ap length took.4, length-append c.loop.into.rows (took.0 ∷ []), c.loop.invariant.taken);
       same = taken_on c.loop.into.columns (c.args.count - c.loop.counter) more c.loop.at c.loop.rest.now c.loop.into.rows c.take_row.new.into.rows _ (omega arith) c.loop.invariant.same c.in_ok-len.len took
           ∙ (λ i. behind_rows c.take_row.new.into.rows (rows_at (sym c.in_ok-len.ensures.columns i) more (c.loop.at + c.in_ok-len.len) (sym back i)));
     }

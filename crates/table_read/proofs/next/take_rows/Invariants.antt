@@ -7,6 +7,5 @@ abbrev pub invariant-loop : goal.invariant-loop
 invariant-loop l = record {
   size : l.at + length l.rest ≡ l.place + length l.bytes;
   columns : l.into.columns ≡ l.fn.into.columns;
-  taken : length l.into.rows ≡ l.counter;
   same : rows_at l.fn.into.columns l.count l.place l.bytes ≡ behind_rows l.into.rows (rows_at l.into.columns (l.count - l.counter) l.at l.rest);
 }

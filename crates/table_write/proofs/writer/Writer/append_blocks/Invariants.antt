@@ -1,16 +1,14 @@
-use Rattle.std.proofs.Common.{length, ◌≤◌, All}
-use Rattle.std.specs.Vec.{vec_capacity}
-use Rattle.tuple_schema.specs.Schemas.{Fits}
+use Rattle.std.proofs.Common.{length, drop, ◌-◌, ◌≤◌}
 use Rattle.table_write.specs.Cut.{cut}
 use Rattle.table_write.proofs.Adding.{SoFar}
 use Rattle.table_write.proofs.writer.Writer.append_blocks.Given as goal
 
-abbrev pub invariant-loop-rest : goal.invariant-loop-rest
-invariant-loop-rest g l = record {
-  fit : All (λ row. Fits l.schema row) l.rest;
-  so_far : SoFar l.schema (cut l.batch l.rows) l.fn.journal (g.K.Disk.state l.fn.disk) (cut l.batch l.rest) l.journal (g.K.Disk.state l.disk);
-  room : 262336 ≤ vec_capacity l.self-inside.row;
+abbrev pub invariant-loop-at : goal.invariant-loop-at
+invariant-loop-at g l = record {
+  within : l.at ≤ length l.rows.rows;
+  so_far : SoFar l.rows.columns (cut l.batch (drop l.from l.rows.rows)) l.fn.journal (g.K.Disk.state l.fn.disk)
+      (cut l.batch (drop l.at l.rows.rows)) l.journal (g.K.Disk.state l.disk);
 }
 
-abbrev pub decreases-loop-rest : goal.decreases-loop-rest
-decreases-loop-rest g l = length l.rest
+abbrev pub decreases-loop-at : goal.decreases-loop-at
+decreases-loop-at g l = length l.rows.rows - l.at
