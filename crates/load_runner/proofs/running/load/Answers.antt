@@ -125,7 +125,7 @@ returns-in-Ok-finish g c =
     let root = c.root_node-root.result.now in
     let ends : EndsTable (missing_of job c.in-Ok.found whole) mid new = is_missing (λ adding. EndsTable adding mid new) c.in-Ok-finish.ensures.finishes in
     let reported : c.in_ok-report.report ≡ skip_report root.id (count_of c.in-Ok.found) (length whole) =
-    c.in_ok-report.ensures ∙ ap (λ n. skip_report root.id n c.len.result) c.count_of-before.ensures ∙ ap (skip_report root.id (count_of c.in-Ok.found)) c.len.ensures in
+    c.in_ok-report.ensures ∙ ap (λ n. skip_report root.id n c.len.result) c.count_of-before.ensures ∙ ap (skip_report root.id (count_of c.in-Ok.found)) c.len.ensures.len in
     record {
       promise = loads agree once law cuts job depot still c.in-Ok.found old mid new ran c.root_node-root.ensures.flow c.tree_laws.ensures.root c.root_node-root.ensures.fixed c.still_laws.ensures.first_rows c.still_laws.ensures.ended c.bag_laws.ensures.appended
           c.requires.some c.whole_rows.ensures.consults (time_on old mid new c.open_table.ensures.elapses c.finish.ensures.elapses) c.whole_rows.ensures.served (Ok c.in_ok-report.report)
