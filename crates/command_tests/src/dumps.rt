@@ -26,8 +26,8 @@ fn a_dump_reads_no_source(rt: HostRuntime) -> Result<(), Fail> {
     Ok(())
 }
 
-// The first call of the disk or a later one fails, or a call of the output, or none that a dump makes: what stands in the
-// output is a front of the text.
+// The first call of the disk or a later one fails, or a call of the output, or none that a dump makes: what stands in
+// the output is a front of the text.
 #[test]
 fn a_dump_over_a_device_that_fails_leaves_a_front(rt: HostRuntime) -> Result<(), Fail> {
     let first = carry_out(rt.alloc(), &GIVEN)?;

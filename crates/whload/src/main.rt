@@ -1,5 +1,5 @@
-//! The program: `whload load DIR` loads a CSV file through the folder's flow into its table, and `whload dump DIR` prints
-//! the table.
+//! The program: `whload load DIR` loads a CSV file through the folder's flow into its table, and `whload dump DIR`
+//! prints the table.
 //!
 //! Stands on `commands`, whose `run` does all the work, and on `outside`, whose devices over the real folder, files and
 //! terminal it makes. Nothing is promised of those, and so nothing of `main`; `tests/` at the top run it.
