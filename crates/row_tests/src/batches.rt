@@ -1,10 +1,11 @@
-// Rows of a CSV file in batches, which no load makes yet.
-use crate::samples::orders;
+// Rows in batches: those of a CSV file, and those that are made field by field or taken from bytes.
+use crate::samples::{one_int, orders};
 use extractors::CsvSource;
-use row_batch::{Batch, Rows};
+use row_batch::{Batch, BatchBuilder, Rows};
+use row_codec::RowFault;
 use std::alloc::Global;
 use std::test::Fail;
-use tuple_schema::{Fields, Text, Tuple, Value};
+use tuple_schema::{FieldRef, Fields, Stop, Text, Tuple, Value};
 
 const FILE: &[u8] = b"id,amt,name\n1,2.50,x\n2,,\n3,,yz\n";
 
@@ -53,5 +54,45 @@ fn a_row_is_lent_to_another_batch_and_in_parts(rt: HostRuntime) -> Result<(), Fa
     assert!(rt; key == Tuple::of(vec![in alloc; text, Value::Int(3)]?));
     assert!(rt; row.same_part(&[2, 0], &key));
     assert!(rt; !row.same_part(&[0, 2], &key));
+    Ok(())
+}
+
+// The row of one int, 5, as it stands in a table.
+const FIVE: &[u8] = b"\x01\0\0\0\0\0\0\0\x05";
+
+#[test]
+fn a_batch_is_made_field_by_field(rt: HostRuntime) -> Result<(), Fail> {
+    let alloc = rt.alloc();
+    let mut builder = BatchBuilder::new(alloc, &one_int(alloc)?)?;
+    builder.add(FieldRef::Int(5))?;
+    builder.end_row()?;
+    builder.add(FieldRef::Int(6))?;
+    let batch = builder.finish();
+    assert_eq!(rt; batch.len(), 1);
+    assert_eq!(rt; batch.bytes(), FIVE);
+    Ok(())
+}
+
+#[test]
+fn rows_are_taken_from_bytes(rt: HostRuntime) -> Result<(), Fail> {
+    let alloc = rt.alloc();
+    let mut batch = Batch::new(alloc, &orders(alloc)?)?;
+    assert!(rt; batch.push_bytes(ROWS) == Ok(22));
+    assert!(rt; batch.push_bytes(&ROWS[1..]) == Err(Stop::Fault(RowFault::NullRefused)));
+    assert!(rt; batch.push_bytes(&ROWS[22..]) == Ok(11));
+    assert!(rt; batch.push_bytes(&ROWS[33..47]) == Err(Stop::Fault(RowFault::Short)));
+    assert_eq!(rt; batch.bytes(), &ROWS[..33]);
+    Ok(())
+}
+
+#[test]
+fn a_batch_has_more_rows_than_one_fill_brings(rt: HostRuntime) -> Result<(), Fail> {
+    let alloc = rt.alloc();
+    let mut batch = Batch::new(alloc, &orders(alloc)?)?;
+    for _ in 0..5000 {
+        batch.push_bytes(LAST)?;
+    }
+    assert_eq!(rt; batch.len(), 5000);
+    assert_eq!(rt; batch.row(4999).bytes(), LAST);
     Ok(())
 }

@@ -1,5 +1,6 @@
 // Schemas of tests.
-ghost use Rattle.std.specs.Prelude.{◌≡◌, IfOk};
+ghost use Rattle.std.specs.Prelude.{◌≡◌, length, slice_get, IfOk, IfSome};
+ghost use Rattle.tuple_schema.specs.declared.schema.ColumnKind.TheVariants as kind;
 
 use std::alloc::Global;
 use std::test::Fail;
@@ -26,7 +27,10 @@ pub fn orders(alloc: Global) -> Result<Schema, Fail> {
 }
 
 // One int that may not be Null: its rows have nine bytes.
-pub fn one_int(alloc: Global) -> Result<Schema, Fail> {
+pub fn one_int(alloc: Global) -> Result<Schema, Fail>
+    ensures one { IfOk result (λ s. length s ≡ 1) }
+    ensures int { IfOk result (λ s. IfSome (slice_get s 0) (λ c. c.kind ≡ kind.Int)) }
+{
     let column = column(alloc, "a", ColumnKind::Int, false)?;
     Ok(Schema::of(vec![in alloc; column]?))
 }
