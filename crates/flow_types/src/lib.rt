@@ -6,9 +6,9 @@
 //! `specs/Flows.antt`, a flow and its tree, and `specs/Linked.antt`, what holds of each flow. Built at this stage
 //! are sequences in CSV files, selections of whole numbers and projections: `is_built`.
 //!
-//! Promised: `type_flow` answers the typed flow or its first fault; every `Flow` is the nodes of one tree, inputs first,
-//! no two of one number or one name, each over the columns of its inputs, and ranks above them; `tree_laws`: the nodes
-//! make their tree, and its numbers the tree that the names in the file make.
+//! Promised: `type_flow` answers the typed flow or its first fault; every `Flow` is the nodes of one tree, inputs
+//! first, no two of one number or one name, each over the columns of its inputs, and ranks above them; `tree_laws`: the
+//! nodes make their tree, and its numbers the tree that the names in the file make.
 //! Not promised: that memory is found.
 #![tactic(auto)]
 
