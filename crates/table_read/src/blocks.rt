@@ -11,7 +11,6 @@ ghost use Rattle.table_read.specs.Calls.{IsRead};
 use crate::rows::verify_rows;
 use commit_disk::{BlockHead, Journal, TableFault};
 use outside::Disk;
-use std::alloc::Global;
 use tuple_schema::{Schema, Stop};
 
 // The bytes of a gate and of the head of a block, before its rows.
@@ -57,7 +56,6 @@ pub fn read_block<K: Disk>(
 
 // Verifies the rows of the block at a gate, in a buffer that is read over. Answers the next gate.
 pub fn verify_block<K: Disk>(
-    alloc: Global,
     disk: &mut K,
     journal: &Journal,
     gate: u64,
@@ -78,6 +76,6 @@ pub fn verify_block<K: Disk>(
     ensures cause { IfFault result (IsCaused (K.state disk.old).faults (K.state disk.new).faults) }
 {
     let head = read_block(disk, journal, gate, buffer)?;
-    verify_rows(alloc, buffer, head.count(), gate + HEAD, schema)?;
+    verify_rows(buffer, head.count(), gate + HEAD, schema)?;
     Ok(gate + HEAD + head.len() as u64)
 }

@@ -6,29 +6,21 @@ ghost use Rattle.table_read.specs.Places.{Verifies, wrong_place, NoDisk};
 ghost use Rattle.table_read.specs.Calls.{RowTells};
 
 use commit_disk::TableFault;
-use row_codec::decode_row;
-use std::alloc::Global;
+use row_codec::skip_row;
 use tuple_schema::{Schema, Stop};
 
 // How many bytes the row at the front takes. The bytes begin at that place.
-fn row_len(
-    alloc: Global,
-    bytes: &[u8],
-    place: u64,
-    schema: &Schema,
-) -> Result<usize, Stop<TableFault>>
+fn row_len(bytes: &[u8], place: u64, schema: &Schema) -> Result<usize, Stop<TableFault>>
     ensures { RowTells schema.now place bytes.now result }
 {
-    match decode_row(alloc, bytes, schema) {
-        Ok((_, len)) => Ok(len),
-        Err(Stop::Memory) => Err(Stop::Memory),
-        Err(Stop::Fault(_)) => Err(Stop::Fault(TableFault::NotATable { at: place })),
+    match skip_row(bytes, schema) {
+        Ok(len) => Ok(len),
+        Err(_) => Err(Stop::Fault(TableFault::NotATable { at: place })),
     }
 }
 
 // Whether the bytes from that place on are exactly so many rows.
 pub fn verify_rows(
-    alloc: Global,
     bytes: &[u8],
     count: u32,
     place: u64,
@@ -41,7 +33,7 @@ pub fn verify_rows(
     let mut rest = bytes;
     let mut at = place;
     for _ in 0..count {
-        let len = row_len(alloc, rest, at, schema)?;
+        let len = row_len(rest, at, schema)?;
         rest = rest.split_at(len).1;
         at += len as u64;
     }

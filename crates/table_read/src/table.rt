@@ -39,7 +39,7 @@ pub fn verify<K: Disk>(
     let mut buffer = Vec::new(alloc);
     let mut gate = journal.first();
     while gate < journal.gate() {
-        gate = verify_block(alloc, disk, journal, gate, schema, &mut buffer)?;
+        gate = verify_block(disk, journal, gate, schema, &mut buffer)?;
     }
     Ok(())
 }
