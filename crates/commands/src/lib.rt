@@ -20,10 +20,10 @@ mod laws;
 mod load;
 mod reason;
 mod refusal;
-mod run;
+mod running;
 mod texts;
 mod words;
 
 pub use laws::run_again_after_a_crash;
 pub use reason::{Ending, Reason, Status, Step};
-pub use run::run;
+pub use running::run;

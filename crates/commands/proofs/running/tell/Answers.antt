@@ -2,7 +2,7 @@ use Rattle.std.proofs.Common.{◌∙◌, ℕ, List, Option, sym, subst}
 use Rattle.commands.specs.declared.reason.Reason.{Reason}
 use Rattle.commands.specs.Answers.{GainsLine, Notes}
 use Rattle.commands.proofs.Told.{noted, no_memory}
-use Rattle.commands.proofs.run.tell.Goals as goal
+use Rattle.commands.proofs.running.tell.Goals as goal
 
 pub returns-in-Ok-clause-notes : goal.returns-in-Ok-clause-notes
 returns-in-Ok-clause-notes g c = λ told line.

@@ -3,7 +3,7 @@ use Rattle.std.specs.Prelude.{option_map}
 use Rattle.commands.specs.Found.{asked_of}
 use Rattle.commands.proofs.Begun.{untouched}
 use Rattle.commands.proofs.Kept.{begins_keeps, promised, unused}
-use Rattle.commands.proofs.run.run.Goals as goal
+use Rattle.commands.proofs.running.run.Goals as goal
 
 pub returns-in-None-clause-ends : goal.returns-in-None-clause-ends
 returns-in-None-clause-ends g c = record {
