@@ -1,29 +1,21 @@
 -- A run, and the next one over what a crash left.
-use Rattle.std.proofs.Common.{◌≡◌, ◌∙◌, ◌⊎◌, inl, inr, ⊎_elim, ℕ, List, [], ◌++◌, length, drop, Bool, true, false, IsTrue, Option, Some, None, Ok, Err, Result, refl, sym, ap, subst, arith}
-use Rattle.std.proofs.Math.Seq.{drop-append_seam}
+use Rattle.std.proofs.Common.{◌≡◌, ◌∙◌, ◌⊎◌, inl, inr, ⊎_elim, ℕ, List, [], length, false, IsTrue, Option, Some, None, Ok, Err, Result, refl, ap, subst, arith}
 use Rattle.outside.specs.Words.{Each, DiskState, AtEachMoment, Files, DepotState, Consults, SinkState}
-use Rattle.outside.specs.Moments.{at_end}
 use Rattle.outside.specs.History.{DiskHistory}
 use Rattle.outside.specs.Crashes.{images_of}
 use Rattle.tuple_schema.specs.declared.value.Value.{Value}
-use Rattle.tuple_schema.specs.declared.memory.Stop.TheVariants.{Memory, Fault}
-use Rattle.table_write.specs.Rows.{HoldsRows}
-use Rattle.load_runner.specs.declared.fault.LoadFault.TheVariants as fault
-use Rattle.load_runner.specs.declared.report.Report.{Report}
-use Rattle.load_runner.specs.Found.{State, rows, IsFound}
 use Rattle.load_runner.specs.Jobs as jobs
 use Rattle.load_runner.specs.Jobs.{columns_of}
 use Rattle.load_runner.specs.Loads.{Loads}
 use Rattle.load_runner.specs.Safe.{IsSafe, HoldsAll}
 use Rattle.load_runner.specs.Sources.{IsMeaning}
-use Rattle.load_runner.specs.Standing.{Begins, Stands}
 use Rattle.flow_types.specs.Flows.{has_fixed_root}
 use Rattle.commands.specs.declared.reason.Reason.{Reason}
-use Rattle.commands.specs.Commands.{Asked, Job, loads, asked_in}
+use Rattle.commands.specs.Commands.{Asked, Job, loads}
 use Rattle.commands.specs.Promises as promises
 use Rattle.commands.specs.Devices.{Devices}
 use Rattle.commands.specs.Promises.{LoadsAndTells, Answers, Runs, NotBegun, Promised, IsTold, Ends}
-use Rattle.commands.specs.Verdict.{asked_over, AsksFor}
+use Rattle.commands.specs.Verdict.{AsksFor}
 
 -- what was asked for is what there was to be done
 same_asked : (asked other : Result Job Reason) (old new : Devices) (answer : Option Reason) → asked ≡ other → Answers asked old new answer → Answers other old new answer

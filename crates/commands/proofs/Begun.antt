@@ -1,5 +1,5 @@
 -- How a command begins, of what was found of its flow.
-use Rattle.std.proofs.Common.{◌≡◌, ◌≤◌, ◌+◌, inl, inr, List, ℕ, Option, Some, Result, Ok, Err, codes, refl, sym}
+use Rattle.std.proofs.Common.{◌≡◌, ◌≤◌, ◌+◌, inl, inr, Option, Some, Ok, Err, codes, refl, sym}
 use Rattle.outside.specs.Words.{Rose, DiskState, Files, file_at, DepotState, Consults, SinkState}
 use Rattle.outside.specs.Moments.{no_read}
 use Rattle.outside.specs.Whole.{size_of}
@@ -8,8 +8,8 @@ use Rattle.commands.specs.declared.reason.Reason.TheVariants as why
 use Rattle.commands.specs.Commands.{Asked, load, dump, FlowText, job_for}
 use Rattle.commands.specs.Reasons.{RefusesFlow, IsAsked as IsReadingReason}
 use Rattle.commands.specs.Devices.{Devices, devices, Untouched}
-use Rattle.commands.specs.Promises.{Fits, Does, Runs, NotBegun, Begins}
-use Rattle.commands.specs.Verdict.{flow_of_files, asked_over}
+use Rattle.commands.specs.Promises.{Fits, Does, Begins}
+use Rattle.commands.specs.Verdict.{flow_of_files}
 use Rattle.commands.proofs.Verdicts.{asked_refused, asked_read}
 
 -- nothing was asked of the devices

@@ -1,7 +1,7 @@
 -- The promise of a dump, for each way in which it ends.
-use Rattle.std.proofs.Common.{◌≡◌, ◌⊎◌, ◌∙◌, ◌≤◌, ◌+◌, inl, inr, ℕ, List, [], ◌++◌, length, Bool, All, IsTrue, Option, Some, None, Result, Ok, Err, refl, sym, ap, subst, append-nil, arith}
+use Rattle.std.proofs.Common.{◌≡◌, ◌⊎◌, ◌≤◌, ◌+◌, inl, inr, ℕ, List, [], length, Bool, All, IsTrue, Option, Some, None, Result, Ok, Err, refl, sym, ap, subst, append-nil, arith}
 use Rattle.std.proofs.lemmas.List.Elements.{All-nil}
-use Rattle.outside.specs.Words.{Rose, DiskState, Elapses, Spares, OnlyReads, DepotState, SinkState, gained, Gains, GainsFront}
+use Rattle.outside.specs.Words.{Rose, DiskState, Elapses, Spares, OnlyReads, DepotState, SinkState, gained, GainsFront}
 use Rattle.outside.specs.Moments.{rose_later, time_on}
 use Rattle.tuple_schema.specs.declared.value.Value.{Value}
 use Rattle.tuple_schema.specs.declared.schema.Column.{Column}
@@ -30,7 +30,7 @@ use Rattle.commands.specs.declared.reason.Reason.{Reason}
 use Rattle.commands.specs.declared.reason.Reason.TheVariants as why
 use Rattle.commands.specs.Commands.{FlowText}
 use Rattle.commands.specs.Devices.{devices}
-use Rattle.commands.specs.Dumps.{FailsOutside, Refuses, Gained, Shows, DoesBy, RestsOn, Dumps}
+use Rattle.commands.specs.Dumps.{FailsOutside, Gained, DoesBy, RestsOn, Dumps}
 use Rattle.commands.specs.Stops.{reason_of_table, reason_of_dump}
 
 -- what an image is found to be, of the same text and columns

@@ -1,12 +1,12 @@
 -- What every run keeps, whatever it answers.
-use Rattle.std.proofs.Common.{◌≡◌, ◌∙◌, ◌≤◌, ⊎_elim, List, ℕ, Option, Some, None, Result, Ok, Err, refl, ap, sym, subst, arith}
-use Rattle.outside.specs.Words.{Elapses, DepotState, Consults, SinkState}
+use Rattle.std.proofs.Common.{◌≡◌, ◌∙◌, ◌≤◌, ⊎_elim, List, ℕ, Option, Some, None, Result, Ok, Err, ap, sym, subst, arith}
+use Rattle.outside.specs.Words.{DepotState, Consults, SinkState}
 use Rattle.commit_disk.specs.Crashes.{LosesNothing}
 use Rattle.commit_disk.specs.Growth.{nothing_lost}
 use Rattle.commands.specs.declared.reason.Reason.{Reason}
 use Rattle.commands.specs.Commands.{Asked, Job, loads, dumps, asked_in}
 use Rattle.commands.specs.Devices.{Devices, Untouched}
-use Rattle.commands.specs.Promises.{Does, Answers, Runs, NotBegun, Begins, Promised, KeepsOn}
+use Rattle.commands.specs.Promises.{Does, Answers, Begins, Promised, KeepsOn}
 
 -- what it keeps, and that no table is lost
 pub record Keeping (old new : Devices) : Type 0 where

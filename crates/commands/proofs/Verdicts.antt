@@ -1,5 +1,5 @@
 -- How what there is to be done follows from what each step was told.
-use Rattle.std.proofs.Common.{◌≡◌, ℕ, List, Result, Ok, Err, codes, refl}
+use Rattle.std.proofs.Common.{◌≡◌, ℕ, List, Ok, Err, codes, refl}
 use Rattle.outside.specs.Depot.{Files, file_at}
 use Rattle.outside.specs.Whole.{found_in}
 use Rattle.workflow_file.specs.declared.raw.RawFlow.{RawFlow}

@@ -1,5 +1,5 @@
 -- What a run of the program promises.
-use Rattle.std.specs.Prelude.{◌≡◌, ◌⊎◌, ◌≤◌, ◌+◌, ℕ, List, Option, Some, None, Result, Ok, Err, IsTrue, codes, ⊤}
+use Rattle.std.specs.Prelude.{◌≡◌, ◌⊎◌, ◌≤◌, ◌+◌, ℕ, List, Option, Some, None, Result, Ok, Err, codes, ⊤}
 use Rattle.outside.specs.Words.{Rose, Elapses, Files, file_at, DepotState, Consults, SinkState, Gains, GainsFront}
 use Rattle.outside.specs.Whole.{size_of}
 use Rattle.flow_types.specs.declared.node.Node.{Node}

@@ -1,5 +1,5 @@
 -- What a command has to do over the files of a folder, or why its flow is refused.
-use Rattle.std.specs.Prelude.{◌≡◌, ℕ, List, [], Option, Some, None, Result, Ok, Err, if◌then◌else◌, codes}
+use Rattle.std.specs.Prelude.{◌≡◌, ℕ, List, [], Some, Result, Ok, Err, if◌then◌else◌, codes}
 use Rattle.outside.specs.Depot.{Files, file_at}
 use Rattle.outside.specs.Whole.{Found, missing, too_large, bytes, found_in}
 use Rattle.tuple_schema.specs.Stops.{◌>>=◌}

@@ -1,4 +1,4 @@
-use Rattle.std.proofs.Common.{◌≡◌, ◌∙◌, List, ℕ, Ok, Err, refl, sym, ap, subst}
+use Rattle.std.proofs.Common.{◌≡◌, ◌∙◌, List, ℕ, Ok, Err, refl, ap, subst}
 use Rattle.outside.specs.Moments.{spares_on}
 use Rattle.tuple_schema.specs.declared.schema.Column.{Column}
 use Rattle.commit_disk.specs.Table.{IsNotMade}

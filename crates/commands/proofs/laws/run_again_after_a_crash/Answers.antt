@@ -1,4 +1,4 @@
-use Rattle.std.proofs.Common.{◌≡◌, ◌∙◌, [], Option, None, map, string_bytes, refl, ap, subst}
+use Rattle.std.proofs.Common.{◌∙◌, [], Option, None, map, string_bytes, refl, ap, subst}
 use Rattle.outside.specs.MemoryDisk.{DiskInMemory, file_of, state_of}
 use Rattle.outside.specs.Moments.{at_end}
 use Rattle.load_runner.specs.Jobs.{columns_of}

@@ -1,6 +1,4 @@
-use Rattle.std.proofs.Common.{◌≡◌, ap, sym, refl, inl, inr, Some, None, map, string_bytes}
-use Rattle.std.specs.Prelude.{option_map}
-use Rattle.commands.specs.Found.{asked_of}
+use Rattle.std.proofs.Common.{refl, Some, None, map, string_bytes}
 use Rattle.commands.proofs.Begun.{untouched}
 use Rattle.commands.proofs.Kept.{begins_keeps, promised, unused}
 use Rattle.commands.proofs.running.run.Goals as goal
