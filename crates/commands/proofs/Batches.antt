@@ -1,7 +1,7 @@
 -- The words, by how many they are.
 use native.Mathlib.Omega.{arith}
 use Rattle.std.proofs.Common.{◌≡◌, ℕ, ◌≤◌, ◌<◌, List, [], ◌∷◌, length, map, get_or}
-use Rattle.commands.specs.Words.{given_batch, batch_in}
+use Rattle.commands.specs.Arguments.{given_batch, batch_in}
 
 pub four_words : {X : Type 0} (view : X → List ℕ) (words : List X) (command option number : X)
     → 4 ≤ length words → length words < 5

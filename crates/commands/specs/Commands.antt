@@ -2,7 +2,7 @@
 use Rattle.std.specs.Prelude.{ℕ, ◌≤◌, List, if◌then◌else◌, Option, Some, None, ⊤}
 use Rattle.flow_types.specs.Flows.{TypedFlow}
 use Rattle.load_runner.specs.Jobs as jobs
-use Rattle.commands.specs.Words.{batch_in, is_dump}
+use Rattle.commands.specs.Arguments.{batch_in, is_dump}
 
 -- a command: a load, in blocks of so many rows, or a dump
 pub data Asked : Type 0 where

@@ -1,4 +1,4 @@
-pub mod Words
+pub mod Arguments
 pub mod Commands
 pub mod Reasons
 pub mod Texts
@@ -11,3 +11,4 @@ pub mod Devices
 pub mod Dumps
 pub mod Promises
 pub mod Answers
+pub mod Words

@@ -6,7 +6,7 @@ use Rattle.workflow_file.specs.declared.fault.Place.{Place}
 use Rattle.workflow_file.specs.declared.fault.Lack.{Lack}
 use Rattle.workflow_file.specs.declared.fault.FlowFault.{FlowFault}
 use Rattle.workflow_file.specs.declared.fault.FlowFault.TheVariants as flow
-use Rattle.workflow_file.specs.Words.{section_text, lack_text}
+use Rattle.workflow_file.specs.FaultTexts.{section_text, lack_text}
 use Rattle.flow_types.specs.declared.fault.SchemaCause.{SchemaCause}
 use Rattle.flow_types.specs.declared.fault.SchemaCause.TheVariants as cause
 use Rattle.flow_types.specs.declared.fault.NodeId.{NodeId}

@@ -1,38 +1,18 @@
--- The commands, as lists of words.
-use Rattle.std.specs.Prelude.{ℕ, ℤ, pos, negsuc, List, [], ◌∷◌, Bool, false, ◌&&◌, ◌==◌, nat_le, bytes_eq, codes, if◌then◌else◌, Option, Some, None}
-use Rattle.plain_where.specs.Texts.{number_of}
-
--- the text begins with the digit 0
-abbrev pub begins_with_zero : List ℕ → Bool
-begins_with_zero [] = false
-begins_with_zero (first ∷ rest) = first == 48
-
--- a number of rows that a block may have
-abbrev pub rows_of_block : Option ℤ → Option ℕ
-rows_of_block None = None
-rows_of_block (Some (pos n)) = if nat_le 1 n && nat_le n 4096 then Some n else None
-rows_of_block (Some (negsuc n)) = None
-
--- a decimal number from 1 to 4,096, without a sign or a leading zero
-abbrev pub batch_number : List ℕ → Option ℕ
-batch_number text = if begins_with_zero text then None else rows_of_block (number_of text)
-
--- of the command alone
-abbrev pub default_batch : List ℕ → Option ℕ
-default_batch command = if bytes_eq command (codes "load") then Some 1000 else None
-
--- of the command and an option
-abbrev pub given_batch : List ℕ → List ℕ → List ℕ → Option ℕ
-given_batch command option number = if bytes_eq command (codes "load")
-    && bytes_eq option (codes "--batch") then batch_number number else None
-
--- how many rows a block may have, where the words are `load DIR` or `load DIR --batch N`, for a folder of any name
-abbrev pub batch_in : List (List ℕ) → Option ℕ
-batch_in (command ∷ folder ∷ []) = default_batch command
-batch_in (command ∷ folder ∷ option ∷ number ∷ []) = given_batch command option number
-batch_in _ = None
-
--- the words are `dump DIR`, for a folder of any name
-abbrev pub is_dump : List (List ℕ) → Bool
-is_dump (command ∷ folder ∷ []) = bytes_eq command (codes "dump")
-is_dump _ = false
+-- The words of clauses, from one place.
+pub use Rattle.commands.specs.Arguments.{batch_in, batch_number, begins_with_zero, default_batch, given_batch}
+pub use Rattle.commands.specs.Arguments.{is_dump}
+pub use Rattle.commands.specs.Commands.{IsWithin, asked_in, job_for, loads}
+pub use Rattle.commands.specs.Reasons.{IsAsked, Tells, TellsView, exit_status_of, status_at, status_of}
+pub use Rattle.commands.specs.Reasons.{step_of}
+pub use Rattle.commands.specs.Texts.{IsMade, cause_text, csv_text, edge_line, fault_name, fault_text}
+pub use Rattle.commands.specs.Texts.{field_text, name_of, place_text, report_text, shape_text, source_text}
+pub use Rattle.commands.specs.Stops.{reason_of_dump, reason_of_stop, reason_of_table}
+pub use Rattle.commands.specs.Lines.{line_text}
+pub use Rattle.commands.specs.Verdict.{AsksFor, built_in, declared_names, flow_of_files, flow_of_text}
+pub use Rattle.commands.specs.Verdict.{known_names, raw_in, text_in, typed_in, typed_of}
+pub use Rattle.commands.specs.Refusals.{HasLineBy, HasLineOver, in_reasons, line_in, names_in}
+pub use Rattle.commands.specs.Found.{asked_of, flow_text_of}
+pub use Rattle.commands.specs.Devices.{devices}
+pub use Rattle.commands.specs.Dumps.{Dumps}
+pub use Rattle.commands.specs.Promises.{Begins, Does, Ends, IsTold, KeepsOn, LoadsAndTells}
+pub use Rattle.commands.specs.Answers.{GainsLine, Notes, answer_of, ending_status}

@@ -1,11 +1,7 @@
 // Carrying out a command.
 ghost use Rattle.std.specs.Prelude.{◌≤◌, length, IfErr};
-ghost use Rattle.commands.specs.Answers.{answer_of};
-ghost use Rattle.commands.specs.Commands.{IsWithin, job_for};
-ghost use Rattle.commands.specs.Devices.{devices};
-ghost use Rattle.commands.specs.Found.{asked_of, flow_text_of};
-ghost use Rattle.commands.specs.Promises.{Begins, Does};
-ghost use Rattle.commands.specs.Refusals.{in_reasons, HasLineOver};
+ghost use Rattle.commands.specs.Words.{answer_of, IsWithin, job_for, devices, asked_of, flow_text_of, Begins, Does};
+ghost use Rattle.commands.specs.Words.{in_reasons, HasLineOver};
 
 use crate::Reason;
 use crate::dump::dump;

@@ -1,11 +1,7 @@
 // The rows of a table, as they are asked for.
 ghost use Rattle.std.specs.Prelude.{◌≡◌};
 ghost use Rattle.outside.specs.Words.{DepotState};
-ghost use Rattle.commands.specs.Answers.{answer_of};
-ghost use Rattle.commands.specs.Devices.{devices};
-ghost use Rattle.commands.specs.Dumps.{Dumps};
-ghost use Rattle.commands.specs.Found.{flow_text_of};
-ghost use Rattle.commands.specs.Stops.{reason_of_table, reason_of_dump};
+ghost use Rattle.commands.specs.Words.{answer_of, devices, Dumps, flow_text_of, reason_of_table, reason_of_dump};
 
 use crate::Reason;
 use crate::find::Found;

@@ -1,12 +1,9 @@
 // The flow of a folder.
 ghost use Rattle.std.specs.Prelude.{◌≡◌, ◌≤◌, ◌+◌, Some, IfOk, IfErr, length, codes};
-ghost use Rattle.outside.specs.Words.{Rose, Files, file_at, Consults};
-ghost use Rattle.outside.specs.Whole.{found_in, size_of};
-ghost use Rattle.flow_types.specs.Graph.{names_of};
-ghost use Rattle.commands.specs.Reasons.{TellsView, IsAsked};
-ghost use Rattle.commands.specs.Refusals.{in_reasons, HasLineBy};
-ghost use Rattle.commands.specs.Verdict.{text_in, raw_in, flow_of_text, flow_of_files, declared_names, known_names};
-ghost use Rattle.commands.specs.Found.{flow_text_of};
+ghost use Rattle.outside.specs.Words.{Rose, Files, file_at, Consults, found_in, size_of};
+ghost use Rattle.flow_types.specs.Words.{names_of};
+ghost use Rattle.commands.specs.Words.{TellsView, IsAsked, in_reasons, HasLineBy, text_in, raw_in, flow_of_text};
+ghost use Rattle.commands.specs.Words.{flow_of_files, declared_names, known_names, flow_text_of};
 
 use crate::Reason;
 use crate::flow::{raw_in, typed_of};

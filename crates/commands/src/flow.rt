@@ -1,10 +1,8 @@
 // The typed flow of `flow.toml`.
 ghost use Rattle.std.specs.Prelude.{◌≡◌, ◌≤◌, IsTrue, IfOk, OnOk, length};
-ghost use Rattle.workflow_file.specs.Kept.{KeepsRules};
-ghost use Rattle.flow_types.specs.Built.{is_built};
-ghost use Rattle.flow_types.specs.Typed.{typed};
-ghost use Rattle.commands.specs.Reasons.{Tells, IsAsked};
-ghost use Rattle.commands.specs.Verdict.{built_in, typed_in, raw_in, typed_of};
+ghost use Rattle.workflow_file.specs.Words.{KeepsRules};
+ghost use Rattle.flow_types.specs.Words.{is_built, typed};
+ghost use Rattle.commands.specs.Words.{Tells, IsAsked, built_in, typed_in, raw_in, typed_of};
 
 use crate::Reason;
 use flow_types::{Flow, is_built, type_flow};

@@ -1,14 +1,10 @@
 // What holds over several runs.
 ghost use Rattle.std.specs.Prelude.{◌≡◌, ℕ, List, true, None, Some, IfOk, map, string_bytes};
-ghost use Rattle.outside.specs.Words.{Files};
-ghost use Rattle.outside.specs.MemoryDisk.{file_of};
+ghost use Rattle.outside.specs.Words.{Files, file_of};
 ghost use Rattle.tuple_schema.specs.declared.value.Value.{Value};
-ghost use Rattle.flow_types.specs.Flows.{has_fixed_root};
-ghost use Rattle.load_runner.specs.Jobs.{Job, columns_of};
-ghost use Rattle.load_runner.specs.Safe.{HoldsAll};
-ghost use Rattle.load_runner.specs.Sources.{IsMeaning};
-ghost use Rattle.commands.specs.Commands.{loads};
-ghost use Rattle.commands.specs.Verdict.{AsksFor};
+ghost use Rattle.flow_types.specs.Words.{has_fixed_root};
+ghost use Rattle.load_runner.specs.Words.{Job, columns_of, HoldsAll, IsMeaning};
+ghost use Rattle.commands.specs.Words.{loads, AsksFor};
 
 use crate::{Ending, run};
 use outside::{Depot, MemoryDisk, Sink, Torn};

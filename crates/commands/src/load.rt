@@ -1,10 +1,7 @@
 // A load, and its report.
 ghost use Rattle.std.specs.Prelude.{◌≡◌, ◌≤◌, length};
-ghost use Rattle.commands.specs.Answers.{answer_of};
-ghost use Rattle.commands.specs.Commands.{IsWithin, load as asks_load};
-ghost use Rattle.commands.specs.Devices.{devices};
-ghost use Rattle.commands.specs.Promises.{LoadsAndTells};
-ghost use Rattle.commands.specs.Stops.{reason_of_stop};
+ghost use Rattle.commands.specs.Words.{answer_of, IsWithin, devices, LoadsAndTells, reason_of_stop};
+ghost use Rattle.commands.specs.Commands.{load as asks_load};
 
 use crate::Reason;
 use crate::find::Found;

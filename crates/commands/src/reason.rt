@@ -1,6 +1,6 @@
 // How a command ends.
 ghost use Rattle.std.specs.Prelude.{◌≡◌};
-ghost use Rattle.commands.specs.Reasons.{step_of, status_at, status_of, exit_status_of};
+ghost use Rattle.commands.specs.Words.{step_of, status_at, status_of, exit_status_of};
 ghost use Rattle.commands.specs.declared.reason.Reason.TheVariants as why;
 
 use flow_types::SchemaFault;

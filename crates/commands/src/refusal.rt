@@ -1,9 +1,7 @@
 // Refusals, and the names by which their lines tell a node.
 ghost use Rattle.std.specs.Prelude.{◌≡◌};
-ghost use Rattle.flow_types.specs.Graph.{names_of};
-ghost use Rattle.flow_types.specs.Names.{name_at};
-ghost use Rattle.commands.specs.Refusals.{names_in};
-ghost use Rattle.commands.specs.Texts.{fault_name};
+ghost use Rattle.flow_types.specs.Words.{names_of, name_at};
+ghost use Rattle.commands.specs.Words.{names_in, fault_name};
 
 use crate::Reason;
 use flow_types::NodeId;

@@ -1,11 +1,8 @@
 // The top call.
 ghost use Rattle.std.specs.Prelude.{◌≡◌, Option, Some, map, string_bytes};
 ghost use Rattle.outside.specs.Words.{Files};
-ghost use Rattle.commit_disk.specs.Crashes.{LosesNothing};
-ghost use Rattle.commands.specs.Answers.{ending_status, GainsLine, Notes};
-ghost use Rattle.commands.specs.Devices.{devices};
-ghost use Rattle.commands.specs.Promises.{Ends, KeepsOn, IsTold};
-ghost use Rattle.commands.specs.Refusals.{HasLineOver};
+ghost use Rattle.commit_disk.specs.Words.{LosesNothing};
+ghost use Rattle.commands.specs.Words.{ending_status, GainsLine, Notes, devices, Ends, KeepsOn, IsTold, HasLineOver};
 
 use crate::carry::carry_out;
 use crate::refusal::Refusal;

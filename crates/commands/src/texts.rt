@@ -1,9 +1,8 @@
 // What the program writes.
 ghost use Rattle.std.specs.Prelude.{◌≡◌, ◌++◌, IfOk, OnOk, OnErr, codes, string_bytes};
 ghost use Rattle.std.specs.List.{flat_map};
-ghost use Rattle.commands.specs.Texts.{report_text, edge_line, name_of, place_text, shape_text, fault_text, cause_text, source_text, csv_text, field_text, IsMade};
-ghost use Rattle.commands.specs.Lines.{line_text};
-ghost use Rattle.commands.specs.Refusals.{line_in};
+ghost use Rattle.commands.specs.Words.{report_text, edge_line, name_of, place_text, shape_text, fault_text};
+ghost use Rattle.commands.specs.Words.{cause_text, source_text, csv_text, field_text, IsMade, line_text, line_in};
 
 use crate::Reason;
 use crate::refusal::Refusal;

@@ -1,8 +1,7 @@
 // The words of the command line.
 ghost use Rattle.std.specs.Prelude.{◌≡◌, ◌≤◌, map, string_bytes, option_map, IfSome};
-ghost use Rattle.commands.specs.Commands.{asked_in, IsWithin};
-ghost use Rattle.commands.specs.Found.{asked_of};
-ghost use Rattle.commands.specs.Words.{begins_with_zero, batch_number, default_batch, given_batch, batch_in, is_dump};
+ghost use Rattle.commands.specs.Words.{asked_in, IsWithin, asked_of, begins_with_zero, batch_number, default_batch};
+ghost use Rattle.commands.specs.Words.{given_batch, batch_in, is_dump};
 
 use plain_where::number_of;
 

@@ -8,3 +8,4 @@ pub mod Attach
 pub mod RowTables
 pub mod Frames
 pub mod Growth
+pub mod Words

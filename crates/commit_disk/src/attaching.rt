@@ -1,12 +1,13 @@
 // Attaching a table: its head and its gates are read, and none of its rows.
 ghost use Rattle.std.specs.Prelude.{◌≡◌, ◌≢◌, ◌≤◌, ◌<◌, ◌+◌, ◌^◌, ◌↔◌, ◌⊎◌, [], ℕ, List, length, take, drop, min, slice_index, IsTrue, IsErrOf, IfOk, IfSome, OnOk, OnErr, true, false};
 ghost use Rattle.std.specs.Int.{w32, to_be_bytes, from_be_bytes};
-ghost use Rattle.outside.specs.Words.{HasCause, Rose, TellsSize, Elapses, Keeps, Syncs, LeavesNothingNew, Spares, OnlyReads};
-ghost use Rattle.tuple_schema.specs.Stops.{IfFault};
+ghost use Rattle.outside.specs.Words.{HasCause, Rose, TellsSize, Elapses, Keeps, Syncs, LeavesNothingNew, Spares};
+ghost use Rattle.outside.specs.Words.{OnlyReads};
+ghost use Rattle.tuple_schema.specs.Words.{IfFault};
 ghost use Rattle.tuple_schema.specs.declared.memory.Stop.TheVariants as stop;
 ghost use Rattle.commit_disk.specs.declared.attaching.TableFault.TheVariants as fault;
-ghost use Rattle.commit_disk.specs.Attach.{LeadsTo, HasName, AttachTells, IsVerdict, IsWithin, IsSound};
-ghost use Rattle.commit_disk.specs.Frames.{HasDiskCause, HeadTells, IsOnTheWay, PassTells, GateTells, GatesTell, FoundTells};
+ghost use Rattle.commit_disk.specs.Words.{LeadsTo, HasName, AttachTells, IsVerdict, IsWithin, IsSound, HasDiskCause};
+ghost use Rattle.commit_disk.specs.Words.{HeadTells, IsOnTheWay, PassTells, GateTells, GatesTell, FoundTells};
 
 use crate::block_head::{block_of, number_at, read_block_head};
 use crate::gate::{MADE_GATE, OPEN};

@@ -1,8 +1,7 @@
 // A block of rows that waits for its commit.
 ghost use Rattle.std.specs.Prelude.{◌≡◌, ◌≤◌, ◌<◌, ◌+◌, ◌++◌, ◌-◌, ◌∷◌, [], length, take, drop, vec_len, vec_capacity, IfOk};
 ghost use Rattle.std.specs.Int.{w32, to_be_bytes};
-ghost use Rattle.commit_disk.specs.Buffer.{no_rows, with_row, behind_gate};
-ghost use Rattle.commit_disk.specs.Table.{rows_block};
+ghost use Rattle.commit_disk.specs.Words.{no_rows, with_row, behind_gate, rows_block};
 
 use crate::gate::CLOSED;
 use std::alloc::Global;

@@ -2,8 +2,8 @@
 ghost use Rattle.std.specs.Prelude.{◌≡◌, ◌≤◌, ◌<◌, ◌+◌, List, length, slice_index, take, drop, IsTrue, IfOk, IfErr};
 ghost use Rattle.std.specs.Int.{w32, to_be_bytes, from_be_bytes};
 ghost use Rattle.outside.specs.Words.{HasCause, OnlyReads};
-ghost use Rattle.commit_disk.specs.Table.{TableBlock, content_of};
-ghost use Rattle.commit_disk.specs.BlockHeads.{count_in, len_in, IsBlockAt, BlockHeadTells, IsHeadFault, BlockTells};
+ghost use Rattle.commit_disk.specs.Words.{TableBlock, content_of, count_in, len_in, IsBlockAt, BlockHeadTells};
+ghost use Rattle.commit_disk.specs.Words.{IsHeadFault, BlockTells};
 
 use crate::gate::{CLOSED, OPEN};
 use crate::{FULL_BYTES, Journal, MAX_ROW_BYTES, MAX_ROWS, TableFault};

@@ -1,8 +1,7 @@
 // The protocol of gates.
 ghost use Rattle.std.specs.Prelude.{◌≡◌, ◌≤◌, ◌<◌, ◌+◌, ◌^◌, ◌↔◌, length, IsTrue, IfOk, OnOk};
 ghost use Rattle.outside.specs.Words.{HasCause, Torn, Elapses, Keeps, Writes, IsSettled, PassesOver};
-ghost use Rattle.commit_disk.specs.Table.{IsNotMade};
-ghost use Rattle.commit_disk.specs.Gate.{HasClosedGate, HasClosedGateAt, KeepsClosed, OpensGate};
+ghost use Rattle.commit_disk.specs.Words.{IsNotMade, HasClosedGate, HasClosedGateAt, KeepsClosed, OpensGate};
 
 use outside::{Disk, Failed};
 

@@ -1,12 +1,11 @@
 // The journal of a table: where its gates are, and the calls that add to it.
 ghost use Rattle.std.specs.Prelude.{◌≡◌, ◌≤◌, ◌<◌, ◌+◌, ◌^◌, ◌↔◌, [], ◌∷◌, ◌++◌, ℕ, List, length, vec_len, IsTrue, IsErrOf, IfOk, OnOk, OnErr, true, false};
 ghost use Rattle.outside.specs.Words.{HasCause, Rose, Each, Elapses, IsSettled, LeftBetween, PassesOver};
-ghost use Rattle.tuple_schema.specs.Stops.{IfFault};
+ghost use Rattle.tuple_schema.specs.Words.{IfFault};
 ghost use Rattle.tuple_schema.specs.declared.memory.Stop.TheVariants as stop;
-ghost use Rattle.commit_disk.specs.Table.{TableBlock, rows_block, end_block, Holds, HoldsUpTo, IsNotMade, head};
-ghost use Rattle.commit_disk.specs.Journal.{new_journal, after, Commits};
-ghost use Rattle.commit_disk.specs.Crashes.{IsEmptyOrNotMade, LeavesWhole, Grows, GrowsBy};
-ghost use Rattle.commit_disk.specs.BlockHeads.{count_in, len_in, passed, IsWritten};
+ghost use Rattle.commit_disk.specs.Words.{TableBlock, rows_block, end_block, Holds, HoldsUpTo, IsNotMade, head};
+ghost use Rattle.commit_disk.specs.Words.{new_journal, after, Commits, IsEmptyOrNotMade, LeavesWhole, Grows, GrowsBy};
+ghost use Rattle.commit_disk.specs.Words.{count_in, len_in, passed, IsWritten};
 
 use crate::gate::{CLOSED, MADE_GATE, close_made_gate, open_gate};
 use crate::{Block, BlockHead, MAX_ROWS};

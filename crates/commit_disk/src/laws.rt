@@ -1,6 +1,5 @@
 // Laws of the table file.
-ghost use Rattle.commit_disk.specs.Attach.{VerdictsAgree};
-ghost use Rattle.commit_disk.specs.Table.{HoldsOnce};
+ghost use Rattle.commit_disk.specs.Words.{VerdictsAgree, HoldsOnce};
 
 /// An image holds one table at most, and so its first closed gate is at one place.
 pub fn holds_once()

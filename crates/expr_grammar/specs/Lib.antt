@@ -5,3 +5,4 @@ pub mod Kinds
 pub mod Machine
 pub mod Allowing
 pub mod Scans
+pub mod Words

@@ -1,6 +1,6 @@
 // Which texts have an expression, and which a fault.
 ghost use Rattle.std.specs.Prelude.{◌≡◌, ◌⊎◌, ℕ, List};
-ghost use Rattle.expr_grammar.specs.Texts.{IsText, IsFirstFault};
+ghost use Rattle.expr_grammar.specs.Words.{IsText, IsFirstFault};
 ghost use Rattle.expr_grammar.specs.declared.expr.Expr.{Expr};
 ghost use Rattle.expr_grammar.specs.declared.fault.ExprFault.{ExprFault};
 

@@ -1,11 +1,9 @@
 // The expression of a text, read byte by byte.
 ghost use Rattle.std.specs.Prelude.{◌≡◌, List, [], option_map, false, ◌+◌, ◌<◌, ◌≤◌, ◌^◌, length, reverse, slice_range, slice_index, true, IsUtf8, IfOk, Ok, Err, Some, None};
-ghost use Rattle.tuple_schema.specs.Stops.{Gives, GivesView, IfFault};
-ghost use Rattle.expr_grammar.specs.Texts.{IsText, IsFirstFault};
-ghost use Rattle.expr_grammar.specs.Tokens.{is_number, is_text, said};
-ghost use Rattle.expr_grammar.specs.Kinds.{kind_of, continues};
-ghost use Rattle.expr_grammar.specs.Scans.{scan_of, IsScanned};
-ghost use Rattle.expr_grammar.specs.Machine.{at_mode, takes_in, led, past, ended, begun, stepped, read, reading, start};
+ghost use Rattle.tuple_schema.specs.Words.{Gives, GivesView, IfFault};
+ghost use Rattle.expr_grammar.specs.Words.{IsText, IsFirstFault, is_number, is_text, said, kind_of, continues};
+ghost use Rattle.expr_grammar.specs.Words.{scan_of, IsScanned, at_mode, takes_in, led, past, ended, begun, stepped};
+ghost use Rattle.expr_grammar.specs.Words.{read, reading, start};
 ghost use Rattle.expr_grammar.specs.declared.expr.Expr.{Expr};
 ghost use Rattle.expr_grammar.specs.declared.fault.ExprFault.{ExprFault};
 ghost use Rattle.expr_grammar.specs.declared.state.Frame.{Frame};

@@ -1,12 +1,13 @@
 // The tokens that can follow, and what they lead to.
 ghost use Rattle.std.specs.Prelude.{◌≡◌, ◌≢◌, ◌&&◌, true, ◌+◌, ◌<◌, ◌≤◌, ◌^◌, nat_le, ℕ, List, length, reverse, option_map, is_some, IfOk, IfSome, IfNone, [], ◌∷◌};
 ghost use Rattle.std.specs.List.{list_any};
-ghost use Rattle.expr_grammar.specs.Phrases.{level_of, left_of, right_of};
-ghost use Rattle.expr_grammar.specs.Tokens.{is_front, is_column};
-ghost use Rattle.expr_grammar.specs.Scans.{scan_of};
-ghost use Rattle.expr_grammar.specs.Kinds.{spelling, fixed, fixed_words};
-ghost use Rattle.expr_grammar.specs.Machine.{State, at_mode, Reduced, reduce, begins, rank, made, room, hole, opens, takes_in, takes_operand, takes_opening, takes_after, takes_is, takes_is_not, takes_scaled, with_operator, with_is, closed_in, ended_call, parted_in, parted_by, gone_on, levels, levels_in};
-ghost use Rattle.expr_grammar.specs.Allowing.{reduced_level, closes, closes_call, parts, allows_operand, allows_after, allows, begins_by, begins_if};
+ghost use Rattle.expr_grammar.specs.Words.{level_of, left_of, right_of, is_front, is_column, scan_of, spelling};
+ghost use Rattle.expr_grammar.specs.Words.{fixed, fixed_words, State, at_mode, Reduced, reduce, begins, rank, made};
+ghost use Rattle.expr_grammar.specs.Words.{room, hole, opens, takes_in, takes_operand, takes_opening, takes_after};
+ghost use Rattle.expr_grammar.specs.Words.{takes_is, takes_is_not, takes_scaled, with_operator, with_is, closed_in};
+ghost use Rattle.expr_grammar.specs.Words.{ended_call, parted_in, parted_by, gone_on, levels, levels_in};
+ghost use Rattle.expr_grammar.specs.Words.{reduced_level, closes, closes_call, parts, allows_operand, allows_after};
+ghost use Rattle.expr_grammar.specs.Words.{allows, begins_by, begins_if};
 ghost use Rattle.expr_grammar.specs.declared.expr.Expr.TheVariants as e;
 ghost use Rattle.expr_grammar.specs.declared.expr.Expr.{Expr};
 ghost use Rattle.expr_grammar.specs.declared.state.Frame.{Frame};

@@ -1,9 +1,10 @@
 // What has been read of a token, kept byte by byte so that no token is read twice.
 ghost use Rattle.std.specs.Prelude.{◌≡◌, [], ◌∷◌, ◌++◌};
 ghost use Rattle.std.specs.List.{list_any};
-ghost use Rattle.tuple_schema.specs.Texts.{is_lower, is_digit};
-ghost use Rattle.expr_grammar.specs.Tokens.{is_front, symbols};
-ghost use Rattle.expr_grammar.specs.Scans.{scan_first, scan_next, digits_next, places_next, scans_word, scans_number, scans_text, is_whole_number, is_whole_text, count_of, goes_by};
+ghost use Rattle.tuple_schema.specs.Words.{is_lower, is_digit};
+ghost use Rattle.expr_grammar.specs.Words.{is_front, symbols, scan_first, scan_next, digits_next, places_next};
+ghost use Rattle.expr_grammar.specs.Words.{scans_word, scans_number, scans_text, is_whole_number, is_whole_text};
+ghost use Rattle.expr_grammar.specs.Words.{count_of, goes_by};
 
 use tuple_schema::is_name_byte;
 

@@ -1,9 +1,8 @@
 // Whole tokens, and what they say.
 ghost use Rattle.std.specs.Prelude.{◌≡◌, ◌<◌, ◌≤◌, ◌^◌, ◌++◌, pos, length, true, bytes_eq, IsTrue, IsUtf8, IfOk, IfSome, IfNone};
-ghost use Rattle.tuple_schema.specs.Texts.{is_among};
-ghost use Rattle.expr_grammar.specs.Tokens.{words, is_column, is_scale, units, said, unquoted};
-ghost use Rattle.expr_grammar.specs.Kinds.{kind_of, kind_among, fixed, fixed_words};
-ghost use Rattle.expr_grammar.specs.Scans.{scan_of};
+ghost use Rattle.tuple_schema.specs.Words.{is_among};
+ghost use Rattle.expr_grammar.specs.Words.{words, is_column, is_scale, units, said, unquoted, kind_of, kind_among};
+ghost use Rattle.expr_grammar.specs.Words.{fixed, fixed_words, scan_of};
 
 use crate::expr::Operator;
 use crate::scan::{Scan, is_digit};

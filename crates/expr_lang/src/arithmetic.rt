@@ -1,7 +1,7 @@
 // What operators make of numbers. Units are exact in i128; a result outside i64 is none.
 ghost use Rattle.std.specs.Prelude.{◌≡◌, ◌≢◌, ◌≤◌, ◌<◌, ◌+◌, ◌-◌, ◌*◌, ◌/◌, ◌^◌, ◌+ℤ◌, ◌-ℤ◌, ◌*ℤ◌, ◌≤ℤ◌, pos, negsuc, max, int_div, unsigned_abs, Some};
-ghost use Rattle.expr_lang.specs.Values.{units, units_if, times_ten, ordering, plus, minus, times, over, opposite_number, size, rounded, with_places};
-ghost use Rattle.expr_lang.specs.Views.{seen_number, IsSmall};
+ghost use Rattle.expr_lang.specs.Words.{units, units_if, times_ten, ordering, plus, minus, times, over};
+ghost use Rattle.expr_lang.specs.Words.{opposite_number, size, rounded, with_places, seen_number, IsSmall};
 
 use crate::number::{MAX_PLACES, Number};
 use std::cmp::Ordering;

@@ -1,10 +1,10 @@
 // The meaning of an expression in a row.
 ghost use Rattle.std.specs.Prelude.{◌≡◌, ◌≢◌, ◌≤◌, ◌<◌, length, bytes_eq, true, Some, IfOk, IfSome, IsOk};
-ghost use Rattle.tuple_schema.specs.Tuples.{lent};
-ghost use Rattle.tuple_schema.specs.Schemas.{IsSchema};
-ghost use Rattle.expr_lang.specs.Trees.{joined, coalesced, chosen, tree_of, IsPlain};
-ghost use Rattle.expr_lang.specs.Values.{Meaning, units, bytes, truly, meaning, meaning_in, meaning_at, place_of, joined_by, followed_by, plus, minus, times, over, first_of, choice, truth_in, is_nothing, value_in, value_of, truth_of};
-ghost use Rattle.expr_lang.specs.Views.{seen, seen_number, applied, IsShort};
+ghost use Rattle.tuple_schema.specs.Words.{lent, IsSchema};
+ghost use Rattle.expr_lang.specs.Words.{joined, coalesced, chosen, tree_of, IsPlain, Meaning, units, bytes, truly};
+ghost use Rattle.expr_lang.specs.Words.{meaning, meaning_in, meaning_at, place_of, joined_by, followed_by, plus};
+ghost use Rattle.expr_lang.specs.Words.{minus, times, over, first_of, choice, truth_in, is_nothing, value_in};
+ghost use Rattle.expr_lang.specs.Words.{value_of, truth_of, seen, seen_number, applied, IsShort};
 ghost use Rattle.tuple_schema.specs.Tuples.{IsShort as IsShortValue};
 
 use crate::arithmetic::{difference, number_of, product, quotient, sum};

@@ -1,7 +1,8 @@
 // What has been found out of an expression in a row.
 ghost use Rattle.std.specs.Prelude.{◌≡◌, ◌+◌, ◌≤◌, length, Some, option_copied, IfSome, IfOk};
-ghost use Rattle.expr_lang.specs.Values.{Meaning, nothing, bytes, truly, ordering, truth_in, opposite, both, either, decided, tested, asks, is_nothing, followed_by, byte_count};
-ghost use Rattle.expr_lang.specs.Views.{seen, seen_number, IsShort};
+ghost use Rattle.expr_lang.specs.Words.{Meaning, nothing, bytes, truly, ordering, truth_in, opposite, both, either};
+ghost use Rattle.expr_lang.specs.Words.{decided, tested, asks, is_nothing, followed_by, byte_count, seen};
+ghost use Rattle.expr_lang.specs.Words.{seen_number, IsShort};
 
 use crate::arithmetic::compare;
 use crate::logic::{Truth, decided};

@@ -2,9 +2,11 @@
 ghost use Rattle.std.specs.Prelude.{◌≡◌, ◌+◌, ◌||◌, [], ◌∷◌, false, max, bytes_eq, find, Ok, Err, IfOk, IfSome, option_map, option_copied};
 ghost use Rattle.std.specs.List.{list_any};
 ghost use Rattle.std.specs.Option.{option_or};
-ghost use Rattle.tuple_schema.specs.Stops.{Gives, IfFault};
-ghost use Rattle.expr_lang.specs.Trees.{tree_of};
-ghost use Rattle.expr_lang.specs.Kinds.{typing, kind_of, columns_in, is_unknown, operator_kind, arithmetic, comparison, are_comparable, truths, texts, number_kind, places_of, as_number, places_by, same_number, truth_kind, null_test, length_kind, number_with, one_kind, is_same_kind, choice_kind, column_kind};
+ghost use Rattle.tuple_schema.specs.Words.{Gives, IfFault};
+ghost use Rattle.expr_lang.specs.Words.{tree_of, typing, kind_of, columns_in, is_unknown, operator_kind, arithmetic};
+ghost use Rattle.expr_lang.specs.Words.{comparison, are_comparable, truths, texts, number_kind, places_of, as_number};
+ghost use Rattle.expr_lang.specs.Words.{places_by, same_number, truth_kind, null_test, length_kind, number_with};
+ghost use Rattle.expr_lang.specs.Words.{one_kind, is_same_kind, choice_kind, column_kind};
 ghost use Rattle.expr_lang.specs.declared.kind.ExprKind.{ExprKind};
 ghost use Rattle.expr_lang.specs.declared.kind.TypeFault.{TypeFault};
 

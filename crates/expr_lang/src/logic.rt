@@ -1,6 +1,6 @@
 // SQL's three-valued logic.
 ghost use Rattle.std.specs.Prelude.{◌≡◌};
-ghost use Rattle.expr_lang.specs.Values.{opposite, both, either, decided};
+ghost use Rattle.expr_lang.specs.Words.{opposite, both, either, decided};
 
 /// A value of SQL's three-valued logic. A selection keeps only True.
 #[derive(Clone, Copy, Debug, PartialEq, Eq)]

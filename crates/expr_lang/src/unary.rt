@@ -1,7 +1,8 @@
 // Operations on one part.
 ghost use Rattle.std.specs.Prelude.{◌≡◌, ◌≤◌, length};
-ghost use Rattle.expr_lang.specs.Values.{Meaning, truly, truth_in, opposite, decided, is_nothing, is_something, opposite_number, size, with_places, byte_count};
-ghost use Rattle.expr_lang.specs.Views.{seen, seen_number, applied, IsShort};
+ghost use Rattle.expr_lang.specs.Words.{Meaning, truly, truth_in, opposite, decided, is_nothing, is_something};
+ghost use Rattle.expr_lang.specs.Words.{opposite_number, size, with_places, byte_count, seen, seen_number, applied};
+ghost use Rattle.expr_lang.specs.Words.{IsShort};
 
 use crate::arithmetic::{absolute, number_of, opposite, rescaled};
 use crate::held::Held;

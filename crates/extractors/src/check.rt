@@ -1,11 +1,10 @@
 // Whether a CSV file has a content, with no tuple and no text made.
 ghost use Rattle.std.specs.Prelude.{◌≡◌, ◌<◌, ◌≤◌, ◌^◌, ◌||◌, bytes_eq, length, OnOk, Err};
 ghost use Rattle.csv.specs.Records.{fields_of};
-ghost use Rattle.tuple_schema.specs.Schemas.{IsSchema};
-ghost use Rattle.tuple_schema.specs.Stops.{Gives, IfFault};
-ghost use Rattle.row_codec.specs.Lending.{tested};
-ghost use Rattle.extractors.specs.CsvContent.{named_columns, header_of, tuple_of, tuples_from, under_header, csv_content};
-ghost use Rattle.extractors.specs.Readers.{IsOpen, to_come};
+ghost use Rattle.tuple_schema.specs.Words.{IsSchema, Gives, IfFault};
+ghost use Rattle.row_codec.specs.Words.{tested};
+ghost use Rattle.extractors.specs.Words.{named_columns, header_of, tuple_of, tuples_from, under_header, csv_content};
+ghost use Rattle.extractors.specs.Words.{IsOpen, to_come};
 
 use crate::MAX_FILE;
 use crate::fault::{CsvFault, RecordFault};

@@ -1,6 +1,6 @@
 // What is wrong with a CSV file.
 ghost use Rattle.std.specs.Prelude.{◌≡◌};
-ghost use Rattle.extractors.specs.CsvContent.{row_fault};
+ghost use Rattle.extractors.specs.Words.{row_fault};
 
 use row_codec::FieldFault;
 use thiserror::Error;

@@ -1,12 +1,10 @@
 // The files of a depot as sources.
 ghost use Rattle.std.specs.Prelude.{◌≡◌, ◌≢◌, ◌≤◌, ◌+◌, Some, Err, IfOk, length};
-ghost use Rattle.outside.specs.Counts.{Rose};
-ghost use Rattle.outside.specs.Depot.{Files, file_at, Consults};
-ghost use Rattle.outside.specs.Whole.{found_in, size_of};
-ghost use Rattle.tuple_schema.specs.Stops.{GivesView};
+ghost use Rattle.outside.specs.Words.{Rose, Files, file_at, Consults, found_in, size_of};
+ghost use Rattle.tuple_schema.specs.Words.{GivesView};
 ghost use Rattle.tuple_schema.specs.declared.memory.Stop.TheVariants as stop;
 ghost use Rattle.extractors.specs.declared.fault.CsvFault.TheVariants as fault;
-ghost use Rattle.extractors.specs.Opening.{bytes_of, source_content};
+ghost use Rattle.extractors.specs.Words.{bytes_of, source_content};
 
 use crate::{CsvFault, CsvSource};
 use outside::{Depot, WholeFile, read_whole};

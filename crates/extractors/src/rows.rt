@@ -1,8 +1,7 @@
 // The rows of a CSV source, in batches.
 ghost use Rattle.std.specs.Prelude.{◌≡◌, ◌≤◌, ◌++◌, [], All, IfOk, OnOk, length};
-ghost use Rattle.tuple_schema.specs.Schemas.{Fits, IsSchema};
-ghost use Rattle.extractors.specs.Readers.{to_come};
-ghost use Rattle.extractors.specs.Sources.{good_rows, rows_left, CanGoOn, GoesOn, IsFullUnlessEnded};
+ghost use Rattle.tuple_schema.specs.Words.{Fits, IsSchema};
+ghost use Rattle.extractors.specs.Words.{to_come, good_rows, rows_left, CanGoOn, GoesOn, IsFullUnlessEnded};
 
 use crate::record_row::RecordRow;
 use crate::records::next_record;

@@ -1,8 +1,7 @@
 // A CSV source: a file that was checked, and its rows.
 ghost use Rattle.std.specs.Prelude.{◌≡◌, ◌≤◌, All, length, IfOk, true};
-ghost use Rattle.tuple_schema.specs.Schemas.{Fits};
-ghost use Rattle.tuple_schema.specs.Stops.{GivesView};
-ghost use Rattle.extractors.specs.CsvContent.{csv_content};
+ghost use Rattle.tuple_schema.specs.Words.{Fits, GivesView};
+ghost use Rattle.extractors.specs.Words.{csv_content};
 
 use crate::check::check_content;
 use crate::records::{next_record, reader_over, without_mark};

@@ -8,3 +8,4 @@ pub mod Flows
 pub mod Typed
 pub mod Linked
 pub mod Typing
+pub mod Words

@@ -1,9 +1,8 @@
 // Which flows are built at this stage.
 ghost use Rattle.std.specs.Prelude.{◌≡◌, is_some};
 ghost use Rattle.std.specs.List.{list_all, list_any};
-ghost use Rattle.flow_types.specs.Columns.{is_int_column};
-ghost use Rattle.flow_types.specs.Built.{is_csv, is_built_source, is_built_node, is_selection, has_ints, selects_ints, is_built};
-ghost use Rattle.flow_types.specs.NodeTexts.{text_of};
+ghost use Rattle.flow_types.specs.Words.{is_int_column, is_csv, is_built_source, is_built_node, is_selection};
+ghost use Rattle.flow_types.specs.Words.{has_ints, selects_ints, is_built, text_of};
 
 use crate::column_texts::is_int_column;
 use tuple_schema::Text;

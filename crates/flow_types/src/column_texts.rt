@@ -1,9 +1,8 @@
 // The columns that texts say.
 ghost use Rattle.std.specs.Prelude.{◌≡◌, map, All, IfOk, IsTrue};
-ghost use Rattle.tuple_schema.specs.Schemas.{HasScale};
-ghost use Rattle.workflow_file.specs.Kept.{KeepsRule};
-ghost use Rattle.workflow_file.specs.Texts.{column_lack, is_kind, without_mark};
-ghost use Rattle.flow_types.specs.Columns.{word_in, kind_of, is_marked, stated_column, is_int_column};
+ghost use Rattle.tuple_schema.specs.Words.{HasScale};
+ghost use Rattle.workflow_file.specs.Words.{KeepsRule, column_lack, is_kind, without_mark};
+ghost use Rattle.flow_types.specs.Words.{word_in, kind_of, is_marked, stated_column, is_int_column};
 
 use crate::typing::head_of;
 use std::alloc::Global;

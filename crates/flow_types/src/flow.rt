@@ -1,11 +1,9 @@
 // Flows.
 ghost use Rattle.std.specs.Prelude.{◌≡◌, ◌==◌, Some, length, position, option_map, option_copied, IsSome, IfSome, IsTrue, All};
-ghost use Rattle.tuple_schema.specs.Stops.{Gives};
-ghost use Rattle.workflow_file.specs.Kept.{KeepsRules};
-ghost use Rattle.flow_types.specs.Built.{is_built};
-ghost use Rattle.flow_types.specs.Typed.{typed};
-ghost use Rattle.flow_types.specs.Flows.{number_of, node_of, root_in, has_fixed_root, rank_of, IsBelow};
-ghost use Rattle.flow_types.specs.Linked.{IsFlow};
+ghost use Rattle.tuple_schema.specs.Words.{Gives};
+ghost use Rattle.workflow_file.specs.Words.{KeepsRules};
+ghost use Rattle.flow_types.specs.Words.{is_built, typed, number_of, node_of, root_in, has_fixed_root, rank_of};
+ghost use Rattle.flow_types.specs.Words.{IsBelow, IsFlow};
 
 use crate::fault::{NodeId, SchemaFault};
 use crate::graph::read_graph;

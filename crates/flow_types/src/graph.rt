@@ -1,12 +1,13 @@
 // The graph of a flow.
 ghost use Rattle.std.specs.Prelude.{◌≡◌, ◌-◌, ◌<◌, ◌≤◌, ◌++◌, ◌∷◌, ◌||◌, ◌==◌, [], ℕ, Some, Ok, false, is_some, map, filter_map, length, vec_len, get_or, count_by, option_to_list, unwrap_or, All, IfOk, OnOk};
 ghost use Rattle.std.specs.List.{concat};
-ghost use Rattle.tuple_schema.specs.Stops.{Gives, GivesView, IfFault};
-ghost use Rattle.workflow_file.specs.Kept.{KeepsRules};
-ghost use Rattle.plain_where.specs.Truths.{place_of};
-ghost use Rattle.list_algebra.specs.Trees.{in_order};
-ghost use Rattle.flow_types.specs.Trees.{tree_below, inputs_below, IsWhole};
-ghost use Rattle.flow_types.specs.Graph.{names_of, input_names, needs_of, links_of, AreWithin, fault_at, input_fault, inputs_exist, root_at, used_once, is_in, all_reached, flow_tree, graph_of, ComeOnce};
+ghost use Rattle.tuple_schema.specs.Words.{Gives, GivesView, IfFault};
+ghost use Rattle.workflow_file.specs.Words.{KeepsRules};
+ghost use Rattle.plain_where.specs.Words.{place_of};
+ghost use Rattle.list_algebra.specs.Words.{in_order};
+ghost use Rattle.flow_types.specs.Words.{tree_below, inputs_below, IsWhole, names_of, input_names, needs_of};
+ghost use Rattle.flow_types.specs.Words.{links_of, AreWithin, fault_at, input_fault, inputs_exist, root_at};
+ghost use Rattle.flow_types.specs.Words.{used_once, is_in, all_reached, flow_tree, graph_of, ComeOnce};
 
 use crate::fault::{NodeId, SchemaCause, SchemaFault};
 use crate::named::Places;

@@ -1,12 +1,10 @@
 // The tree of a flow.
 ghost use Rattle.std.specs.Prelude.{◌≡◌, ℕ, [], ◌∷◌, Some, Ok, slice_get};
 ghost use Rattle.workflow_file.specs.declared.raw.RawFlow.{RawFlow};
-ghost use Rattle.list_algebra.specs.Trees.{Tree, root_of, seen_tree, trees_in, EachNext};
+ghost use Rattle.list_algebra.specs.Words.{Tree, root_of, seen_tree, trees_in, EachNext};
 ghost use Rattle.flow_types.specs.declared.node.Node.{Node};
-ghost use Rattle.flow_types.specs.Graph.{graph_of};
-ghost use Rattle.flow_types.specs.Flows.{TypedFlow, number_of, count_inputs, tree_of, root_in, node_of};
-ghost use Rattle.flow_types.specs.Typed.{typed};
-ghost use Rattle.flow_types.specs.Linked.{IsLinkedOver, IsFlow};
+ghost use Rattle.flow_types.specs.Words.{graph_of, TypedFlow, number_of, count_inputs, tree_of, root_in, node_of};
+ghost use Rattle.flow_types.specs.Words.{typed, IsLinkedOver, IsFlow};
 
 /// The tree of a flow. It does nothing: its contract is the laws.
 pub fn tree_laws()

@@ -1,8 +1,8 @@
 // The places of the nodes by their names.
 ghost use Rattle.std.specs.Prelude.{◌≡◌, ◌<◌, ◌≤◌, map, length, IfOk, IfSome};
-ghost use Rattle.tuple_schema.specs.Stops.{GivesView};
-ghost use Rattle.plain_where.specs.Truths.{place_of};
-ghost use Rattle.flow_types.specs.Graph.{names_differ};
+ghost use Rattle.tuple_schema.specs.Words.{GivesView};
+ghost use Rattle.plain_where.specs.Words.{place_of};
+ghost use Rattle.flow_types.specs.Words.{names_differ};
 
 use crate::fault::{SchemaCause, SchemaFault};
 use crate::graph::fault_at;

@@ -1,10 +1,7 @@
 // What a node of a raw flow says, by its kind.
 ghost use Rattle.std.specs.Prelude.{◌≡◌, ◌<◌, ◌+◌, Some, length, option_map, option_and_then, IsTrue, IfOk};
-ghost use Rattle.flow_types.specs.Built.{is_built};
-ghost use Rattle.flow_types.specs.Names.{name_at};
-ghost use Rattle.flow_types.specs.Graph.{names_of};
-ghost use Rattle.flow_types.specs.NodeTexts.{select, text_of, text_at, text_seen};
-ghost use Rattle.plain_where.specs.Texts.{expression_of};
+ghost use Rattle.flow_types.specs.Words.{is_built, name_at, names_of, select, text_of, text_at, text_seen};
+ghost use Rattle.plain_where.specs.Words.{expression_of};
 
 use plain_where::Expr;
 use std::alloc::Global;

@@ -1,18 +1,14 @@
 // The columns and kinds of nodes.
 ghost use Rattle.std.specs.Prelude.{◌≡◌, ◌<◌, ◌≤◌, ◌+◌, [], ◌∷◌, Some, None, Ok, Err, map, length, vec_len, filter_map, slice_get, IsTrue, IfOk, IfSome, OnOk, All};
-ghost use Rattle.tuple_schema.specs.Stops.{Gives, GivesView, IfFault};
-ghost use Rattle.tuple_schema.specs.Texts.{head_of, rest_of};
-ghost use Rattle.workflow_file.specs.Kept.{KeepsRules, KeepsSource};
-ghost use Rattle.plain_where.specs.Truths.{place_of};
-ghost use Rattle.flow_types.specs.Names.{names_in, no_double, no_unknown};
-ghost use Rattle.flow_types.specs.Trees.{tree_below, IsWhole};
-ghost use Rattle.flow_types.specs.Graph.{id_of, names_of, needs_of, links_of, inputs_exist, AreWithin};
-ghost use Rattle.flow_types.specs.Built.{is_built, is_built_source};
-ghost use Rattle.flow_types.specs.NodeTexts.{text_at, text_seen, inputs_needed};
-ghost use Rattle.flow_types.specs.Flows.{ids_of, columns_of};
-ghost use Rattle.flow_types.specs.Typed.{new_name, renamed, output_columns, source_cols, is_word, source_of, projection, typed_source, typed_select, typed_project, typed_text, typed_node, at_node, typed_tree};
-ghost use Rattle.flow_types.specs.Linked.{IsBuiltSource, Takes, KeepsText, IsOver, IsLinked};
-ghost use Rattle.flow_types.specs.Typing.{HasTree};
+ghost use Rattle.tuple_schema.specs.Words.{Gives, GivesView, IfFault, head_of, rest_of};
+ghost use Rattle.workflow_file.specs.Words.{KeepsRules, KeepsSource};
+ghost use Rattle.plain_where.specs.Words.{place_of};
+ghost use Rattle.flow_types.specs.Words.{names_in, no_double, no_unknown, tree_below, IsWhole, id_of, names_of};
+ghost use Rattle.flow_types.specs.Words.{needs_of, links_of, inputs_exist, AreWithin, is_built, is_built_source};
+ghost use Rattle.flow_types.specs.Words.{text_at, text_seen, inputs_needed, ids_of, columns_of, new_name, renamed};
+ghost use Rattle.flow_types.specs.Words.{output_columns, source_cols, is_word, source_of, projection, typed_source};
+ghost use Rattle.flow_types.specs.Words.{typed_select, typed_project, typed_text, typed_node, at_node, typed_tree};
+ghost use Rattle.flow_types.specs.Words.{IsBuiltSource, Takes, KeepsText, IsOver, IsLinked, HasTree};
 
 use crate::column_texts::stated_columns;
 use crate::fault::{NodeId, SchemaCause, SchemaFault};

@@ -3,3 +3,4 @@ pub mod Wholes
 pub mod Laws
 pub mod Promises
 pub mod Runs
+pub mod Words

@@ -1,8 +1,7 @@
 // The meaning of a flow.
 ghost use Rattle.std.specs.Prelude.{◌≡◌, ◌-◌, [], Some, IfOk, OnOk, IfSome, get_or, map, slice_set, length};
-ghost use Rattle.flow_types.specs.Flows.{root_in};
-ghost use Rattle.kind_laws.specs.Wholes.{by_number, whole_of};
-ghost use Rattle.kind_laws.specs.Laws.{SourcesHaveColumns};
+ghost use Rattle.flow_types.specs.Words.{root_in};
+ghost use Rattle.kind_laws.specs.Words.{by_number, whole_of, SourcesHaveColumns};
 
 use crate::transform::{Law, Transform};
 use flow_types::{Flow, Kind, NodeId, tree_laws};

@@ -1,11 +1,10 @@
 // What each kind makes of the rows of its input.
 ghost use Rattle.std.specs.Prelude.{◌≡◌, ◌<◌, [], length, map, All, IsSome, IfOk, OnOk};
 ghost use Rattle.std.specs.List.{filter};
-ghost use Rattle.tuple_schema.specs.Schemas.{Fits};
-ghost use Rattle.tuple_schema.specs.Tuples.{part};
-ghost use Rattle.flow_types.specs.Linked.{Takes};
-ghost use Rattle.plain_where.specs.Truths.{place_of, truth_at};
-ghost use Rattle.kind_laws.specs.Outputs.{is_true, selected, projected};
+ghost use Rattle.tuple_schema.specs.Words.{Fits, part};
+ghost use Rattle.flow_types.specs.Words.{Takes};
+ghost use Rattle.plain_where.specs.Words.{place_of, truth_at};
+ghost use Rattle.kind_laws.specs.Words.{is_true, selected, projected};
 
 use plain_where::{Expr, Truth, truth_at};
 use row_batch::{Batch, BatchBuilder, RowView};

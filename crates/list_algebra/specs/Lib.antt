@@ -3,3 +3,4 @@ pub mod Keys
 pub mod Outputs
 pub mod Properties
 pub mod Trees
+pub mod Words

@@ -12,3 +12,4 @@ pub mod Jobs
 pub mod Adding
 pub mod Loads
 pub mod Histories
+pub mod Words

@@ -1,6 +1,6 @@
 // Why a load stopped.
 ghost use Rattle.std.specs.Prelude.{◌≡◌};
-ghost use Rattle.load_runner.specs.Stops.{of_table, of_source_fault, of_sources, of_write};
+ghost use Rattle.load_runner.specs.Words.{of_table, of_source_fault, of_sources, of_write};
 
 use commit_disk::TableFault;
 use extractors::CsvFault;

@@ -3,12 +3,9 @@ ghost use Rattle.std.specs.Prelude.{◌≡◌, ◌≢◌, ◌≤◌, ◌<◌, �
 ghost use Rattle.outside.specs.Words.{Elapses, IsSettled};
 ghost use Rattle.tuple_schema.specs.declared.memory.Stop.TheVariants as stop;
 ghost use Rattle.commit_disk.specs.declared.attaching.Attached.TheVariants as attached;
-ghost use Rattle.commit_disk.specs.Table.{Stored, HoldsUpTo};
-ghost use Rattle.commit_disk.specs.Attach.{IsWithin, IsSound};
-ghost use Rattle.table_write.specs.Cut.{cut};
-ghost use Rattle.table_write.specs.Adds.{LeavesFronts};
-ghost use Rattle.load_runner.specs.Starts.{IsAt, is_ended};
-ghost use Rattle.load_runner.specs.Adding.{addition, Finishes, OfOlds, LeavesGrown};
+ghost use Rattle.commit_disk.specs.Words.{Stored, HoldsUpTo, IsWithin, IsSound};
+ghost use Rattle.table_write.specs.Words.{cut, LeavesFronts};
+ghost use Rattle.load_runner.specs.Words.{IsAt, is_ended, addition, Finishes, OfOlds, LeavesGrown};
 
 use commit_disk::{Attached, Journal, MAX_FLOW_BYTES, MAX_ROWS, make};
 use outside::{Disk, Failed};

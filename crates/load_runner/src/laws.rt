@@ -1,24 +1,15 @@
 // What holds of any number of loads.
 ghost use Rattle.std.specs.Prelude.{◌≡◌, ◌≤◌, ◌+◌, ℕ, List, length, Bool, true, false, IsTrue, Ok, Some};
-ghost use Rattle.list_algebra.specs.Bags.{Tuple};
-ghost use Rattle.list_algebra.specs.Trees.{Tree};
+ghost use Rattle.list_algebra.specs.Words.{Tuple, Tree};
 ghost use Rattle.outside.specs.Words.{Files};
 ghost use Rattle.tuple_schema.specs.declared.schema.Column.{Column};
-ghost use Rattle.commit_disk.specs.Table.{Stored};
-ghost use Rattle.flow_types.specs.Flows.{TypedFlow, has_fixed_root};
-ghost use Rattle.flow_types.specs.Linked.{IsFlow};
-ghost use Rattle.kind_laws.specs.Runs.{Yield, at_root};
-ghost use Rattle.kind_laws.specs.Wholes.{Lists, whole_of};
-ghost use Rattle.table_read.specs.Rows.{table_rows};
-ghost use Rattle.table_write.specs.Cut.{cut};
-ghost use Rattle.table_write.specs.Rows.{HoldsRows};
-ghost use Rattle.load_runner.specs.Found.{FoundOnce};
-ghost use Rattle.load_runner.specs.Sources.{KeepsTruth};
-ghost use Rattle.load_runner.specs.Trimmed.{IsRest, Resumes};
-ghost use Rattle.load_runner.specs.Missing.{IsAllMissing};
-ghost use Rattle.load_runner.specs.Safe.{IsGrown};
-ghost use Rattle.load_runner.specs.Standing.{Stands, IsAll};
-ghost use Rattle.load_runner.specs.Histories.{Standing, nothing, IsStep, IsHistory, AllStandFrom};
+ghost use Rattle.commit_disk.specs.Words.{Stored};
+ghost use Rattle.flow_types.specs.Words.{TypedFlow, has_fixed_root, IsFlow};
+ghost use Rattle.kind_laws.specs.Words.{Yield, at_root, Lists, whole_of};
+ghost use Rattle.table_read.specs.Words.{table_rows};
+ghost use Rattle.table_write.specs.Words.{cut, HoldsRows};
+ghost use Rattle.load_runner.specs.Words.{FoundOnce, KeepsTruth, IsRest, Resumes, IsAllMissing, IsGrown, Stands};
+ghost use Rattle.load_runner.specs.Words.{IsAll, Standing, nothing, IsStep, IsHistory, AllStandFrom};
 
 use commit_disk::{holds_once, verdicts_agree};
 use flow_types::tree_laws;

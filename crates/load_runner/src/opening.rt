@@ -1,12 +1,11 @@
 // Opening a table, which reads it and changes nothing.
 ghost use Rattle.std.specs.Prelude.{◌≡◌, ◌≤◌, ◌<◌, ℕ, IsTrue, Err, IfOk, OnOk};
 ghost use Rattle.outside.specs.Words.{Rose, Elapses, Syncs, Spares};
-ghost use Rattle.tuple_schema.specs.Stops.{IfFault};
+ghost use Rattle.tuple_schema.specs.Words.{IfFault};
 ghost use Rattle.tuple_schema.specs.declared.memory.Stop.TheVariants as stop;
 ghost use Rattle.commit_disk.specs.declared.attaching.TableFault.TheVariants as fault;
-ghost use Rattle.commit_disk.specs.Attach.{IsWithin, IsSound};
-ghost use Rattle.load_runner.specs.Found.{IsFound, wrong, other};
-ghost use Rattle.load_runner.specs.Starts.{Starts, count_of, is_ended};
+ghost use Rattle.commit_disk.specs.Words.{IsWithin, IsSound};
+ghost use Rattle.load_runner.specs.Words.{IsFound, wrong, other, Starts, count_of, is_ended};
 
 use commit_disk::{Attached, TableFault, attach};
 use outside::Disk;

@@ -1,6 +1,6 @@
 // What a load reports.
 ghost use Rattle.std.specs.Prelude.{◌≡◌, IfOk};
-ghost use Rattle.load_runner.specs.Reports.{skip_report, ended_report, skip_counts};
+ghost use Rattle.load_runner.specs.Words.{skip_report, ended_report, skip_counts};
 
 use flow_types::NodeId;
 use std::alloc::Global;

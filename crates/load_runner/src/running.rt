@@ -1,6 +1,6 @@
 // A load, from beginning to end.
 ghost use Rattle.std.specs.Prelude.{◌≡◌, ◌≤◌, length, drop};
-ghost use Rattle.load_runner.specs.Loads.{Loads};
+ghost use Rattle.load_runner.specs.Words.{Loads};
 
 use crate::fault::{LoadFault, of_sources, of_table, of_write};
 use crate::finish::finish;

@@ -1,16 +1,14 @@
 // The rows that a flow means, from the files of its sources.
 ghost use Rattle.std.specs.Prelude.{◌≡◌, ◌≢◌, ◌<◌, ◌≤◌, ◌+◌, ℕ, Some, map, IfOk, IfSome, Ok, Err, option_copied, find};
-ghost use Rattle.outside.specs.Words.{Rose, Files, file_at, Consults};
-ghost use Rattle.outside.specs.Whole.{found_in, size_of};
-ghost use Rattle.tuple_schema.specs.Stops.{IfFault};
+ghost use Rattle.outside.specs.Words.{Rose, Files, file_at, Consults, found_in, size_of};
+ghost use Rattle.tuple_schema.specs.Words.{IfFault};
 ghost use Rattle.tuple_schema.specs.declared.memory.Stop.TheVariants as stop;
-ghost use Rattle.extractors.specs.Opening.{source_content};
-ghost use Rattle.flow_types.specs.Flows.{root_in};
-ghost use Rattle.kind_laws.specs.Laws.{HasOwnColumns, SourcesHaveColumns};
+ghost use Rattle.extractors.specs.Words.{source_content};
+ghost use Rattle.flow_types.specs.Words.{root_in};
+ghost use Rattle.kind_laws.specs.Words.{HasOwnColumns, SourcesHaveColumns};
 ghost use Rattle.load_runner.specs.declared.fault.SourceFault.{SourceFault};
-ghost use Rattle.load_runner.specs.Sources.{by_depot, of_source, content_of, numbered, contents_in};
-ghost use Rattle.load_runner.specs.Asked.{asked_of, asked_bytes};
-ghost use Rattle.load_runner.specs.Jobs.{IsMade};
+ghost use Rattle.load_runner.specs.Words.{by_depot, of_source, content_of, numbered, contents_in, asked_of};
+ghost use Rattle.load_runner.specs.Words.{asked_bytes, IsMade};
 
 use crate::fault::{SourceFault, SourceWhat};
 use extractors::read_content;

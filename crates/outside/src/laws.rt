@@ -1,8 +1,7 @@
 // The law of crashes.
 ghost use Rattle.std.specs.Prelude.{◌≡◌, ◌≤◌, ◌↔◌, ℕ, max, List, [], ◌∷◌, ◌++◌, length};
-ghost use Rattle.outside.specs.History.{DiskHistory, AllBeginWithin};
-ghost use Rattle.outside.specs.Crashes.{IsTornFrom, images_at, images_of};
-ghost use Rattle.outside.specs.CrashModel.{Range, range_at, furthest_end, IsLeft, synced_of, ranges_since, up_to};
+ghost use Rattle.outside.specs.Words.{DiskHistory, AllBeginWithin, IsTornFrom, images_at, images_of, Range, range_at};
+ghost use Rattle.outside.specs.Words.{furthest_end, IsLeft, synced_of, ranges_since, up_to};
 
 /// What a crash may leave of a disk, made event by event, is what the disk model says. It does nothing: its
 /// contract is the laws.

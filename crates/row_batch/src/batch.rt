@@ -1,10 +1,8 @@
 // Batches of rows in one buffer.
 ghost use Rattle.std.specs.Prelude.{◌≡◌, ◌<◌, ◌∷◌, ◌++◌, List, [], length, All, IfOk, OnOk, OnErr, Err, Some, slice_get};
-ghost use Rattle.tuple_schema.specs.Schemas.{Fits};
-ghost use Rattle.tuple_schema.specs.Stops.{IfFault};
+ghost use Rattle.tuple_schema.specs.Words.{Fits, IfFault};
 ghost use Rattle.tuple_schema.specs.declared.value.Value.{Value as Item};
-ghost use Rattle.row_codec.specs.Rows.{rows_bytes};
-ghost use Rattle.row_codec.specs.Decoding.{row_at, IsRowOf, BeginsWithRow};
+ghost use Rattle.row_codec.specs.Words.{rows_bytes, row_at, IsRowOf, BeginsWithRow};
 
 use crate::RowView;
 use crate::packing::{append_front, append_row};

@@ -1,7 +1,7 @@
 // Batches that are made field by field.
 ghost use Rattle.std.specs.Prelude.{◌≡◌, ◌<◌, ◌∷◌, ◌++◌, [], length, IfOk, OnOk, OnErr};
-ghost use Rattle.tuple_schema.specs.Tuples.{lent, IsShort};
-ghost use Rattle.row_batch.specs.Packing.{FitsNext};
+ghost use Rattle.tuple_schema.specs.Words.{lent, IsShort};
+ghost use Rattle.row_batch.specs.Words.{FitsNext};
 
 use crate::Batch;
 use crate::packing::append_value;

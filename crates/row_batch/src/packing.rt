@@ -1,10 +1,8 @@
 // Rows at the end of a buffer, with their places.
 ghost use Rattle.std.specs.Prelude.{◌≡◌, ◌≤◌, ◌+◌, ◌-◌, ◌∷◌, ◌++◌, [], take, length, All, IfOk, OnOk, OnErr, Err, vec_len};
-ghost use Rattle.tuple_schema.specs.Tuples.{lent, IsShort};
-ghost use Rattle.row_codec.specs.Rows.{value_bytes, row_bytes};
-ghost use Rattle.tuple_schema.specs.Stops.{IfFault};
-ghost use Rattle.row_codec.specs.Decoding.{row_at, IsEncodable};
-ghost use Rattle.row_batch.specs.Packing.{value_places, TakesPlaces};
+ghost use Rattle.tuple_schema.specs.Words.{lent, IsShort, IfFault};
+ghost use Rattle.row_codec.specs.Words.{value_bytes, row_bytes, row_at, IsEncodable};
+ghost use Rattle.row_batch.specs.Words.{value_places, TakesPlaces};
 
 use row_codec::{RowFault, encode_field, skip_value};
 use tuple_schema::{Column, FieldRef, Fields, Memory, Stop};

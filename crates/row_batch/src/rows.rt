@@ -1,10 +1,9 @@
 // Rows that come in batches.
 ghost use Rattle.std.specs.Prelude.{◌≡◌, ◌≤◌, ◌++◌, List, [], Bool, false, Ok, All, Contains, IsTrue, OnOk, OnErr};
-ghost use Rattle.tuple_schema.specs.Schemas.{Fits};
-ghost use Rattle.tuple_schema.specs.Stops.{IfFault};
+ghost use Rattle.tuple_schema.specs.Words.{Fits, IfFault};
 ghost use Rattle.tuple_schema.specs.declared.value.Value.{Value};
 ghost use Rattle.row_batch.specs.declared.rows.RowsFault.{RowsFault};
-ghost use Rattle.row_batch.specs.Streams.{IsFilled};
+ghost use Rattle.row_batch.specs.Words.{IsFilled};
 
 use crate::Batch;
 use thiserror::Error;

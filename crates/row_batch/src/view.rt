@@ -1,11 +1,9 @@
 // A row of a batch, read in place.
 ghost use Rattle.std.specs.Prelude.{◌≡◌, ◌<◌, ◌≤◌, ◌+◌, ◌*◌, ◌∷◌, ◌++◌, [], take, vec_len, All, IsTrue, ◌↔◌, IfOk, OnOk, OnErr, length, slice_get, option_map};
-ghost use Rattle.tuple_schema.specs.Tuples.{lent, part};
+ghost use Rattle.tuple_schema.specs.Words.{lent, part};
 ghost use Rattle.tuple_schema.specs.declared.value.Value.TheVariants as value;
-ghost use Rattle.row_codec.specs.Rows.{row_bytes};
-ghost use Rattle.row_codec.specs.Decoding.{IsEncodable};
-ghost use Rattle.row_batch.specs.Packing.{value_places};
-ghost use Rattle.row_batch.specs.Views.{text_of};
+ghost use Rattle.row_codec.specs.Words.{row_bytes, IsEncodable};
+ghost use Rattle.row_batch.specs.Words.{value_places, text_of};
 
 use crate::cell::read_cell;
 use row_codec::own_field;

@@ -1,7 +1,7 @@
 // Numbers from their texts.
 ghost use Rattle.std.specs.Prelude.{◌≡◌, ◌≤◌, ◌^◌};
-ghost use Rattle.row_codec.specs.Fields.{natural_of, units_of, number_of, is_negative, without_sign, signed, in_range};
-ghost use Rattle.row_codec.specs.Numbers.{capped_size, TakesDigits};
+ghost use Rattle.row_codec.specs.Words.{natural_of, units_of, number_of, is_negative, without_sign, signed, in_range};
+ghost use Rattle.row_codec.specs.Words.{capped_size, TakesDigits};
 
 use crate::FieldFault;
 

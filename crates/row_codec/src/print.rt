@@ -1,8 +1,7 @@
 // The texts of fields.
 ghost use Rattle.std.specs.Prelude.{◌≡◌, ◌≤◌, ◌++◌, true, take, IsTrue, OnOk, OnErr, vec_len};
-ghost use Rattle.tuple_schema.specs.Schemas.{HasScale, is_of};
-ghost use Rattle.tuple_schema.specs.Tuples.{lent};
-ghost use Rattle.row_codec.specs.Printing.{last_digits, size_text, units_text, field_text};
+ghost use Rattle.tuple_schema.specs.Words.{HasScale, is_of, lent};
+ghost use Rattle.row_codec.specs.Words.{last_digits, size_text, units_text, field_text};
 
 use crate::numbers::power_of_ten;
 use itoa::Buffer;

@@ -2,7 +2,7 @@
 //
 // Where a call fails that is made, the whole fails; so the first one by which it doesn't is one too many.
 ghost use Rattle.std.specs.Prelude.{◌<◌, length, IfOk};
-ghost use Rattle.outside.specs.MemoryDisk.{file_of};
+ghost use Rattle.outside.specs.Words.{file_of};
 
 use crate::samples::one_int;
 use commit_disk::{Attached, Block, Journal, attach, make};

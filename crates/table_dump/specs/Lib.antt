@@ -1,3 +1,4 @@
 pub mod Texts
 pub mod Stops
 pub mod Writers
+pub mod Words

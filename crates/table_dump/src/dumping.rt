@@ -1,15 +1,11 @@
 // Dumping a table.
 ghost use Rattle.std.specs.Prelude.{◌≡◌, ◌≤◌, ◌<◌, ◌+◌, ℕ, List, Ok, Err, All, length, IsTrue};
 ghost use Rattle.outside.specs.Words.{OnlyReads};
-ghost use Rattle.tuple_schema.specs.Schemas.{Fits};
-ghost use Rattle.tuple_schema.specs.Stops.{IfFault};
+ghost use Rattle.tuple_schema.specs.Words.{Fits, IfFault};
 ghost use Rattle.tuple_schema.specs.declared.value.Value.{Value};
-ghost use Rattle.commit_disk.specs.Table.{row_blocks};
-ghost use Rattle.commit_disk.specs.Attach.{TellsOf};
-ghost use Rattle.table_read.specs.Rows.{table_rows};
-ghost use Rattle.table_read.specs.Places.{wrong_place};
-ghost use Rattle.table_dump.specs.Texts.{rows_text, names_text, dump_text, Leaves};
-ghost use Rattle.table_dump.specs.Stops.{IsCaused, IsOutputFault, Judges};
+ghost use Rattle.commit_disk.specs.Words.{row_blocks, TellsOf};
+ghost use Rattle.table_read.specs.Words.{table_rows, wrong_place};
+ghost use Rattle.table_dump.specs.Words.{rows_text, names_text, dump_text, Leaves, IsCaused, IsOutputFault, Judges};
 
 use crate::DumpFault;
 use crate::fault::of_reading;

@@ -1,5 +1,5 @@
 // Why a dump stopped.
-ghost use Rattle.table_dump.specs.Stops.{IsOfReading, IsStopOf};
+ghost use Rattle.table_dump.specs.Words.{IsOfReading, IsStopOf};
 
 use commit_disk::TableFault;
 use thiserror::Error;

@@ -1,8 +1,8 @@
 // Records of printed fields, in memory that is used again.
 ghost use Rattle.std.specs.Prelude.{◌≡◌, OnOk, map};
 ghost use Rattle.csv.specs.Records.{fields_of};
-ghost use Rattle.tuple_schema.specs.Schemas.{Fits, IsSchema};
-ghost use Rattle.table_dump.specs.Texts.{printed};
+ghost use Rattle.tuple_schema.specs.Words.{Fits, IsSchema};
+ghost use Rattle.table_dump.specs.Words.{printed};
 
 use csv::ByteRecord;
 use row_codec::print_field;

@@ -1,9 +1,8 @@
 // The texts of records.
 ghost use Rattle.std.specs.Prelude.{◌≡◌, ◌++◌, OnOk, IfOk, All};
 ghost use Rattle.csv.specs.Records.{fields_of};
-ghost use Rattle.tuple_schema.specs.Schemas.{Fits};
-ghost use Rattle.table_dump.specs.Texts.{record_text, rows_text, names_text};
-ghost use Rattle.table_dump.specs.Writers.{so_far, IsBetween};
+ghost use Rattle.tuple_schema.specs.Words.{Fits};
+ghost use Rattle.table_dump.specs.Words.{record_text, rows_text, names_text, so_far, IsBetween};
 
 use crate::record::{name_columns, print_row};
 use csv::{ByteRecord, Writer, WriterBuilder};

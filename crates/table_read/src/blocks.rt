@@ -1,12 +1,10 @@
 // One block of a table.
 ghost use Rattle.std.specs.Prelude.{◌≡◌, ◌≤◌, ◌<◌, ◌+◌, ◌^◌, length, IsTrue, IfOk, IfErr, OnOk};
 ghost use Rattle.outside.specs.Words.{Reads, OnlyReads};
-ghost use Rattle.tuple_schema.specs.Stops.{IfFault};
-ghost use Rattle.commit_disk.specs.Table.{TableBlock, content_of};
-ghost use Rattle.commit_disk.specs.BlockHeads.{count_in, len_in, IsBlockAt};
-ghost use Rattle.table_read.specs.Rows.{block_rows, next_gate};
-ghost use Rattle.table_read.specs.Places.{Verifies, wrong_place, IsCaused, IsDisk, StopsOutside};
-ghost use Rattle.table_read.specs.Calls.{IsRead};
+ghost use Rattle.tuple_schema.specs.Words.{IfFault};
+ghost use Rattle.commit_disk.specs.Words.{TableBlock, content_of, count_in, len_in, IsBlockAt};
+ghost use Rattle.table_read.specs.Words.{block_rows, next_gate, Verifies, wrong_place, IsCaused, IsDisk};
+ghost use Rattle.table_read.specs.Words.{StopsOutside, IsRead};
 
 use crate::rows::verify_rows;
 use commit_disk::{BlockHead, Journal, TableFault};

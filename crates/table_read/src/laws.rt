@@ -2,9 +2,9 @@
 ghost use Rattle.std.specs.Prelude.{◌≡◌, ℕ, List, Ok, All};
 ghost use Rattle.tuple_schema.specs.declared.value.Value.{Value};
 ghost use Rattle.tuple_schema.specs.declared.schema.Column.{Column};
-ghost use Rattle.row_codec.specs.Decoding.{AreBytes};
-ghost use Rattle.commit_disk.specs.Table.{Stored};
-ghost use Rattle.table_read.specs.Rows.{table_rows, StoreAll};
+ghost use Rattle.row_codec.specs.Words.{AreBytes};
+ghost use Rattle.commit_disk.specs.Words.{Stored};
+ghost use Rattle.table_read.specs.Words.{table_rows, StoreAll};
 
 use row_codec::codec_laws;
 

@@ -1,12 +1,10 @@
 // Reading a table block by block.
 ghost use Rattle.std.specs.Prelude.{◌≡◌, ◌≤◌, ◌<◌, ◌+◌, ◌^◌, ◌↔◌, [], length, IsTrue, IfOk, IfSome, Ok, None};
 ghost use Rattle.outside.specs.Words.{OnlyReads};
-ghost use Rattle.tuple_schema.specs.Stops.{IfFault};
-ghost use Rattle.commit_disk.specs.Table.{TableBlock, content_of};
-ghost use Rattle.commit_disk.specs.BlockHeads.{IsBlockAt};
-ghost use Rattle.table_read.specs.Rows.{rows_at, block_rows, next_gate};
-ghost use Rattle.table_read.specs.Places.{IsCaused, NoDisk};
-ghost use Rattle.table_read.specs.Blocks.{ReadsBlock, TakesRows, TakesRow};
+ghost use Rattle.tuple_schema.specs.Words.{IfFault};
+ghost use Rattle.commit_disk.specs.Words.{TableBlock, content_of, IsBlockAt};
+ghost use Rattle.table_read.specs.Words.{rows_at, block_rows, next_gate, IsCaused, NoDisk, ReadsBlock, TakesRows};
+ghost use Rattle.table_read.specs.Words.{TakesRow};
 
 use crate::blocks::{HEAD, read_block};
 use commit_disk::{Journal, TableFault};

@@ -1,9 +1,7 @@
 // The rows of one block.
 ghost use Rattle.std.specs.Prelude.{◌≡◌, ◌≤◌, ◌<◌, ◌+◌, ◌^◌, length};
-ghost use Rattle.tuple_schema.specs.Stops.{IfFault};
-ghost use Rattle.table_read.specs.Rows.{rows_at};
-ghost use Rattle.table_read.specs.Places.{Verifies, wrong_place, NoDisk};
-ghost use Rattle.table_read.specs.Calls.{RowTells};
+ghost use Rattle.tuple_schema.specs.Words.{IfFault};
+ghost use Rattle.table_read.specs.Words.{rows_at, Verifies, wrong_place, NoDisk, RowTells};
 
 use commit_disk::TableFault;
 use row_codec::skip_row;

@@ -1,11 +1,9 @@
 // Verifying that the rows of a table decode.
 ghost use Rattle.std.specs.Prelude.{◌≡◌, ◌≤◌, ◌<◌, ◌^◌, ℕ, List, IsTrue};
 ghost use Rattle.outside.specs.Words.{OnlyReads};
-ghost use Rattle.tuple_schema.specs.Stops.{IfFault};
-ghost use Rattle.commit_disk.specs.Table.{row_blocks};
-ghost use Rattle.commit_disk.specs.Attach.{TellsOf};
-ghost use Rattle.table_read.specs.Rows.{table_rows};
-ghost use Rattle.table_read.specs.Places.{Verifies, wrong_place, IsCaused};
+ghost use Rattle.tuple_schema.specs.Words.{IfFault};
+ghost use Rattle.commit_disk.specs.Words.{row_blocks, TellsOf};
+ghost use Rattle.table_read.specs.Words.{table_rows, Verifies, wrong_place, IsCaused};
 
 use crate::blocks::verify_block;
 use commit_disk::{Journal, TableFault};

@@ -1,9 +1,8 @@
 // Filling a block with rows.
 ghost use Rattle.std.specs.Prelude.{◌≡◌, ◌≤◌, ◌<◌, ◌+◌, ◌∷◌, List, length, take, drop, All};
 ghost use Rattle.tuple_schema.specs.declared.value.Value.{Value};
-ghost use Rattle.row_codec.specs.Decoding.{IsRowOf};
-ghost use Rattle.table_write.specs.Cut.{is_full, cut};
-ghost use Rattle.table_write.specs.Rows.{stored_of};
+ghost use Rattle.row_codec.specs.Words.{IsRowOf};
+ghost use Rattle.table_write.specs.Words.{is_full, cut, stored_of};
 
 use commit_disk::{Block, FULL_BYTES, MAX_ROWS};
 use row_batch::Batch;

@@ -2,13 +2,11 @@
 ghost use Rattle.std.specs.Prelude.{◌≡◌, ◌≤◌, ◌+◌, ◌++◌, [], ℕ, List, length, take, All, Bool, Ok};
 ghost use Rattle.tuple_schema.specs.declared.value.Value.{Value};
 ghost use Rattle.tuple_schema.specs.declared.schema.Column.{Column};
-ghost use Rattle.row_codec.specs.Decoding.{IsRowOf};
-ghost use Rattle.commit_disk.specs.Table.{Stored, Holds};
-ghost use Rattle.commit_disk.specs.Crashes.{HasStill};
-ghost use Rattle.table_read.specs.Rows.{table_rows};
-ghost use Rattle.table_write.specs.Cut.{IsCut, cut, together};
-ghost use Rattle.table_write.specs.Rows.{HoldsRows, HoldsFirst, HoldsEnded};
-ghost use Rattle.table_write.specs.Adds.{with_blocks, StopsBetween};
+ghost use Rattle.row_codec.specs.Words.{IsRowOf};
+ghost use Rattle.commit_disk.specs.Words.{Stored, Holds, HasStill};
+ghost use Rattle.table_read.specs.Words.{table_rows};
+ghost use Rattle.table_write.specs.Words.{IsCut, cut, together, HoldsRows, HoldsFirst, HoldsEnded, with_blocks};
+ghost use Rattle.table_write.specs.Words.{StopsBetween};
 
 use commit_disk::{holds_once, verdicts_agree};
 use outside::Disk;

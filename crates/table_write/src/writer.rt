@@ -1,13 +1,12 @@
 // Writing rows to a table.
 ghost use Rattle.std.specs.Prelude.{◌≡◌, ◌≤◌, ◌<◌, ◌+◌, ◌^◌, ℕ, List, length, drop, IsTrue, IsErrOf, OnOk, All, true, false};
 ghost use Rattle.outside.specs.Words.{Rose, Elapses, IsSettled, LeftBetween};
-ghost use Rattle.row_codec.specs.Decoding.{IsRowOf};
-ghost use Rattle.commit_disk.specs.Table.{Stored, HoldsUpTo, rows_block, end_block};
-ghost use Rattle.commit_disk.specs.Journal.{after, Commits};
-ghost use Rattle.commit_disk.specs.Crashes.{LeavesWhole, GrowsBy};
+ghost use Rattle.row_codec.specs.Words.{IsRowOf};
+ghost use Rattle.commit_disk.specs.Words.{Stored, HoldsUpTo, rows_block, end_block, after, Commits, LeavesWhole};
+ghost use Rattle.commit_disk.specs.Words.{GrowsBy};
 ghost use Rattle.table_write.specs.declared.writer.WriteFault.TheVariants as fault;
-ghost use Rattle.table_write.specs.Cut.{cut};
-ghost use Rattle.table_write.specs.Adds.{with_blocks, LeavesFronts, StopsBetween, behind, HasRoom, AllHaveRoom, HasAdded, IsFilled};
+ghost use Rattle.table_write.specs.Words.{cut, with_blocks, LeavesFronts, StopsBetween, behind, HasRoom, AllHaveRoom};
+ghost use Rattle.table_write.specs.Words.{HasAdded, IsFilled};
 
 use crate::fill::fill;
 use commit_disk::{Block, Journal, MAX_ROWS, fits};

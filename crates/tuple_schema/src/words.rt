@@ -1,7 +1,7 @@
 // Names, and the parts of a text round its first space.
 ghost use Rattle.std.specs.Prelude.{◌≡◌, ◌≤◌, length, IsTrue, bytes_eq, option_copied, is_some, option_map, IfSome};
 ghost use Rattle.std.specs.List.{list_all};
-ghost use Rattle.tuple_schema.specs.Texts.{is_lower, is_name_byte, is_name, head_of, rest_of};
+ghost use Rattle.tuple_schema.specs.Words.{is_lower, is_name_byte, is_name, head_of, rest_of};
 
 fn is_lower(b: u8) -> bool
     ensures { result ≡ is_lower b }

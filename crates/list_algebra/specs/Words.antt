@@ -1,0 +1,7 @@
+-- The words of clauses, from one place.
+pub use Rattle.list_algebra.specs.Bags.{IsPartOf, SameBag, Tuple, multiplicity, same, without}
+pub use Rattle.list_algebra.specs.Outputs.{AreSingle, HaveColumns, PiecesCarry, kept_piece, part_piece}
+pub use Rattle.list_algebra.specs.Outputs.{piecewise, project, select, sources}
+pub use Rattle.list_algebra.specs.Properties.{Carries, CarriesLists, Drives, IsMapToOne, IsOrderFree}
+pub use Rattle.list_algebra.specs.Properties.{IsSuffixSafe}
+pub use Rattle.list_algebra.specs.Trees.{EachNext, Tree, in_order, root_of, seen_tree, trees_in}
