@@ -11,7 +11,7 @@ use Rattle.expr_grammar.specs.declared.state.Mode.{Mode}
 use Rattle.expr_grammar.specs.declared.state.Mode.TheVariants as m
 use Rattle.tuple_schema.specs.Texts.{is_digit}
 use Rattle.expr_grammar.specs.Tokens.{is_number, ends_number, is_text, is_scale, units, said, unquoted, symbols, is_token, IsLongest, AreSpaces, Reads, Spells}
-use Rattle.expr_grammar.specs.Texts.{IsSpelt, IsText, GoesOn, BeginsWithin, IsBeyond, IsFault, IsFirstFault, StaysWithin, IsUnexpected}
+use Rattle.expr_grammar.specs.Texts.{IsSpelt, IsRead, IsText, GoesOn, BeginsWithin, IsBeyond, IsFault, IsFirstFault, StaysWithin, IsUnexpected}
 use Rattle.expr_grammar.specs.Phrases.{Phrase, tokens, IsWithin, tree}
 use Rattle.std.specs.Prelude.{IfOk}
 use Rattle.tuple_schema.specs.Stops.{◌>>=◌, Gives, IfFault}
@@ -518,3 +518,10 @@ either_by text (Err f) h = inr (f, reading_faulted text f h)
 
 pub either : (text : List ℕ) → ((x : Expr) × IsText text x) ⊎ ((f : ExprFault) × IsFirstFault text f)
 either text = either_by text (reading text) refl
+
+read_by : (text : List ℕ) (r : Result Expr ExprFault) → reading text ≡ r → IsRead text r
+read_by text (Ok x) h = reading_found text x h
+read_by text (Err f) h = reading_faulted text f h
+
+pub reads : (text : List ℕ) → IsRead text (reading text)
+reads text = read_by text (reading text) refl

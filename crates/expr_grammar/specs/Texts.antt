@@ -1,5 +1,5 @@
 -- The texts of expressions, and what is wrong with others.
-use Rattle.std.specs.Prelude.{◌≡◌, ℕ, true, ◌+◌, ◌<◌, ◌≤◌, List, [], ◌∷◌, ◌++◌, length, take, ◌⊎◌}
+use Rattle.std.specs.Prelude.{◌≡◌, ℕ, true, ◌+◌, ◌<◌, ◌≤◌, List, [], ◌∷◌, ◌++◌, length, take, ◌⊎◌, Result, Ok, Err}
 use Rattle.expr_grammar.specs.Tokens.{Reads, Spells, is_number, is_text}
 use Rattle.expr_grammar.specs.Phrases.{Phrase, IsPhrase, tokens, IsWithin, tree}
 use Rattle.expr_grammar.specs.declared.expr.Expr.{Expr}
@@ -59,3 +59,8 @@ IsFault text at what.TooLong = ⊥
 abbrev pub IsFirstFault : List ℕ → ExprFault → Type 0
 IsFirstFault text f =
     ((4096 < length text) × (f.at ≡ 4096) × (f.what ≡ what.TooLong)) ⊎ ((length text ≤ 4096) × IsFault text f.at f.what)
+
+-- what the text is: an expression's, or wrong by this first fault
+abbrev pub IsRead : List ℕ → Result Expr ExprFault → Type 0
+IsRead text (Ok x) = IsText text x
+IsRead text (Err f) = IsFirstFault text f

@@ -2,7 +2,7 @@
 pub use Rattle.expr_grammar.specs.Tokens.{is_column, is_front, is_number, is_scale, is_text, said, symbols}
 pub use Rattle.expr_grammar.specs.Tokens.{units, unquoted, words}
 pub use Rattle.expr_grammar.specs.Phrases.{left_of, level_of, right_of}
-pub use Rattle.expr_grammar.specs.Texts.{IsFirstFault, IsText}
+pub use Rattle.expr_grammar.specs.Texts.{IsFirstFault, IsRead, IsText}
 pub use Rattle.expr_grammar.specs.Kinds.{continues, fixed, fixed_words, kind_among, kind_of, spelling}
 pub use Rattle.expr_grammar.specs.Machine.{Reduced, State, at_mode, begins, begun, closed_in, ended}
 pub use Rattle.expr_grammar.specs.Machine.{ended_call, gone_on, hole, led, levels, levels_in, made, opens}

@@ -1,6 +1,6 @@
 // Which texts have an expression, and which a fault.
 ghost use Rattle.std.specs.Prelude.{◌≡◌, ◌⊎◌, ℕ, List};
-ghost use Rattle.expr_grammar.specs.Words.{IsText, IsFirstFault};
+ghost use Rattle.expr_grammar.specs.Words.{IsText, IsFirstFault, IsRead, reading};
 ghost use Rattle.expr_grammar.specs.declared.expr.Expr.{Expr};
 ghost use Rattle.expr_grammar.specs.declared.fault.ExprFault.{ExprFault};
 
@@ -17,4 +17,7 @@ pub fn expression_laws()
 
     // Each text has one of them.
     ensures either { (text : List ℕ) → ((x : Expr) × IsText text x) ⊎ ((f : ExprFault) × IsFirstFault text f) }
+
+    // A text is read as what it is: definitions above speak of `reading`, and nobody has to read how it goes.
+    ensures reads { (text : List ℕ) → IsRead text (reading text) }
 {}

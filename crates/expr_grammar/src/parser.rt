@@ -33,6 +33,9 @@ pub fn parse(alloc: Global, text: &str) -> Result<Expr, Stop<ExprFault>>
 
     // The text's first fault is found, unless memory runs out.
     ensures exact { (f : ExprFault) → IsFirstFault text.now f → Gives result (Err f) }
+
+    // That is: the text is read as what it is.
+    ensures reads { Gives result (reading text.now) }
 {
     read_text(alloc, text.as_bytes())
 }

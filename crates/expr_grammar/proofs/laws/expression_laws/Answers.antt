@@ -1,4 +1,4 @@
-use Rattle.expr_grammar.proofs.Answering.{one_expression, one_fault, not_both, either}
+use Rattle.expr_grammar.proofs.Answering.{one_expression, one_fault, not_both, either, reads}
 use Rattle.expr_grammar.proofs.laws.expression_laws.Goals as goal
 
 pub returns-clause-one_expression : goal.returns-clause-one_expression
@@ -12,3 +12,6 @@ returns-clause-not_both c = not_both
 
 pub returns-clause-either : goal.returns-clause-either
 returns-clause-either c = either
+
+pub returns-clause-reads : goal.returns-clause-reads
+returns-clause-reads c = reads

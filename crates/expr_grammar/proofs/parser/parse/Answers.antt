@@ -16,3 +16,6 @@ returns-clause-fault c = given_fault c.args.text.now c.read_text.result (rw c.as
 pub returns-clause-exact : goal.returns-clause-exact
 returns-clause-exact c = λ f h.
     given_at c.read_text.result (reading c.args.text.now) (Err f) (reading_exact c.args.text.now f h) (rw c.as_bytes.ensures.value at c.read_text.ensures)
+
+pub returns-clause-reads : goal.returns-clause-reads
+returns-clause-reads c = rw c.as_bytes.ensures.value at c.read_text.ensures
