@@ -8,4 +8,6 @@ pub mod Flows
 pub mod Typed
 pub mod Linked
 pub mod Typing
+pub mod Assigned
+pub mod Joined
 pub mod Words

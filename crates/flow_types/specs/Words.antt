@@ -16,3 +16,5 @@ pub use Rattle.flow_types.specs.Typed.{typed_source, typed_text, typed_tree}
 pub use Rattle.flow_types.specs.Linked.{IsBuiltSource, IsFlow, IsLinked, IsLinkedOver, IsOver, KeepsText}
 pub use Rattle.flow_types.specs.Linked.{Takes}
 pub use Rattle.flow_types.specs.Typing.{HasTree}
+pub use Rattle.flow_types.specs.Assigned.{HoldsCell, IsAssigned, set_at, width_of}
+pub use Rattle.flow_types.specs.Joined.{ArePairs, IsPair, as_nullable, join_columns, lookup_columns, other_columns}

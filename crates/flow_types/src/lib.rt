@@ -28,4 +28,4 @@ pub use built::is_built;
 pub use fault::{NodeId, SchemaCause, SchemaFault};
 pub use flow::{Flow, type_flow};
 pub use laws::tree_laws;
-pub use node::{Cols, Inputs, Kind, Node, Source};
+pub use node::{Assign, Assigns, Cols, Inputs, Kind, Node, Source};

@@ -4,7 +4,7 @@ ghost use Rattle.std.specs.Prelude.{◌≡◌};
 use crate::fault::NodeId;
 use plain_where::Expr;
 use std::marker::Model;
-use tuple_schema::{Names, Schema, Text};
+use tuple_schema::{Listed, Names, Schema, Text};
 
 /// A list of places of columns. A contract sees it as that list.
 #[derive(Debug, Drop)]
@@ -77,6 +77,17 @@ pub struct Source {
     /// The columns of which equal values stand together.
     pub grouped: Option<Cols>,
 }
+
+/// A column of a map's output, and the value that it is set to, of the row before.
+#[derive(Debug, Drop)]
+pub struct Assign {
+    /// The column's place among those of the output.
+    pub place: usize,
+    pub value: expr_grammar::Expr,
+}
+
+/// What a map sets, in the order of its text.
+pub type Assigns = Listed<Assign>;
 
 /// What a node does.
 #[derive(Debug, Drop)]
