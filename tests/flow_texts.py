@@ -14,8 +14,9 @@ GOOD = "table={input='a'}\nsource=[{name='a',file='a.csv',columns=['n int'],prom
 
 MISSING = "source a: file is missing"
 
-# The projection of `NODES` is built, and its input is the table's too.
+# The nodes of `NODES` that are built over the table's input, and those over inputs that aren't there.
 BUILT = "a: is used twice"
+NO_INPUT = "j: no input l"
 
 # What is wrong behind the source in `SOURCES`.
 NEXT = "node 1 name 0: absent"
@@ -175,7 +176,7 @@ NODES = [
     ("name='s',kind='select',input='a'", "node 1 where 0: absent"),
     ("name='s',kind='select',input='a',where=1", "node 1 where 0: not text"),
     ("name='s',kind='select',input='a',where=''", "node 1 where 0: empty"),
-    ("name='s',kind='select',input='a',where='any text }'", NOT_BUILT),
+    ("name='s',kind='select',input='a',where='any text }'", BUILT),
     ("name='s',kind='select',input='a',where='n',columns=['n']", "node 1 columns 0: unknown"),
     ("name='s',kind='select',input='a',where='n',left='a',test='n'", "node 1 left 0: unknown"),
     ("name='p',kind='project',input='a'", "node 1 columns 0: absent"),
@@ -193,7 +194,7 @@ NODES = [
     ("name='p',kind='project',input='a',columns=['n  as m']", "node 1 columns 1: bad word"),
     ("name='m',kind='map',input='a'", "node 1 set 0: absent"),
     ("name='m',kind='map',input='a',set=[]", "node 1 set 0: empty"),
-    ("name='m',kind='map',input='a',set=['n = 1','m = ','n = n  +  1']", NOT_BUILT),
+    ("name='m',kind='map',input='a',set=['n = 1','m = ','n = n  +  1']", BUILT),
     ("name='m',kind='map',input='a',set=['n']", "node 1 set 1: bad word"),
     ("name='m',kind='map',input='a',set=['n =']", "node 1 set 1: bad word"),
     ("name='m',kind='map',input='a',set=['n =1']", "node 1 set 1: bad word"),
@@ -203,13 +204,13 @@ NODES = [
     ("name='j',kind='join',left='l'", "node 1 right 0: absent"),
     ("name='j',kind='join',left='l',right=1", "node 1 right 0: not text"),
     ("name='j',kind='join',left='l',right='r'", "node 1 on 0: absent"),
-    ("name='j',kind='join',left='l',right='r',on=['n','n = m']", NOT_BUILT),
+    ("name='j',kind='join',left='l',right='r',on=['n','n = m']", NO_INPUT),
     ("name='j',kind='join',left='l',right='r',on=['n = M']", "node 1 on 1: bad word"),
     ("name='j',kind='join',left='l',right='r',on=['n =m']", "node 1 on 1: bad word"),
     ("name='j',kind='join',left='l',right='r',on=['n = m = k']", "node 1 on 1: bad word"),
     ("name='j',kind='join',left='l',right='r',on=['n','M = n']", "node 1 on 2: bad name"),
     ("name='j',kind='join',left='l',right='r',on=['n'],input='l'", "node 1 input 0: unknown"),
-    ("name='j',kind='lookup',left='l',right='r',on=['n']", NOT_BUILT),
+    ("name='j',kind='lookup',left='l',right='r',on=['n']", NO_INPUT),
     ("name='j',kind='lookup',left='l',right='r',on=[]", "node 1 on 0: empty"),
     ("name='g',kind='aggregate',input='a'", "node 1 by 0: absent"),
     ("name='g',kind='aggregate',input='a',by=['n','N']", "node 1 by 2: bad name"),
@@ -337,22 +338,6 @@ ORDERS = [
     ("a", [("a", "'n int'],key=['n','n','k'")], [], "a: unknown column k"),
 ]
 
-# Expressions over the columns b, b_1 and nulls that are built.
-BUILT_TESTS = [
-    "b >= 20", "b = 9223372036854775807", "b = 0009223372036854775807", "nulls <> 0", "b_1 < 5", "b <= 5", "b > 5",
-]
-
-OTHER_TESTS = [
-    "b", "b =", "b = ", "b  >= 20", "b >=  20", "b>=20", " b = 1", "b = 1 ", "b = -1", "b = +1", "b = 1.5", "b = 'x'",
-    "b == 1", "b != 1", "B = 1", "1 = b", "table = 1", "null = 1", "if = 1", "b = 9223372036854775808",
-    "b = 18446744073709551617", "b = 1 and b = 2", "not b > 1",
-]
-
-# Sources beside which there is no selection yet.
-OTHER_SOURCES = [
-    [("a", "'n int','t text'")], [("a", "'n int','m int?'")], [("a", "'n int','d dec2'")], [A, ("b", "'d dec2'")],
-]
-
 # What a source may say, and what is looked for next.
 SOURCE_FORMS = [
     ({"format": "'csv'"}, MISSING),
@@ -436,7 +421,7 @@ def sources():
 
 def nodes():
     for text, line in NODES:
-        told = line if line in (BUILT, NOT_BUILT) else "flow.toml " + line
+        told = line if line in (BUILT, NO_INPUT, NOT_BUILT) else "flow.toml " + line
         expect_told(f"node=[{{{text}}}]\n{GOOD}", told)
     for text, line in [
             ("{name='d',kind='distinct',input='a'}," * 64, NOT_BUILT),
@@ -444,7 +429,7 @@ def nodes():
             ("{name='u',kind='union',inputs=[" + "'a'," * 16 + "],order='any'}", NOT_BUILT),
             ("{name='u',kind='union',inputs=[" + "'a'," * 17 + "],order='any'}",
              "flow.toml node 1 inputs 0: too many"),
-            ("{name='s',kind='select',input='a',where='" + "n" * 4096 + "'}", NOT_BUILT),
+            ("{name='s',kind='select',input='a',where='" + "n" * 4096 + "'}", BUILT),
             ("{name='s',kind='select',input='a',where='" + "n" * 4097 + "'}",
              "flow.toml node 1 where 0: too long")]:
         expect_told(f"{GOOD}node=[{text}]", line)
@@ -468,11 +453,6 @@ def names():
 
 
 def what_is_built():
-    for tests, line in [(BUILT_TESTS, MISSING), (OTHER_TESTS, NOT_BUILT)]:
-        for text in tests:
-            expect_told(flow_of("s", [("a", "'b int','b_1 int','nulls int'")], [("s", "a", text)]), line)
-    for sources in OTHER_SOURCES:
-        expect_told(flow_of("s", sources, [("s", "a", "n > 1")]), NOT_BUILT)
     for keys, line in SOURCE_FORMS:
         expect_told(f"table={{input='a'}}\nsource=[{source(**keys)}]", line)
     expect_told(f"table={{input='a',key=['n']}}\nsource=[{source()}]", NOT_BUILT)

@@ -1,7 +1,9 @@
 //! What whload does at this stage, in plain Rust with the real `csv` crate and no proofs: `twin load DIR FILE COLUMNS`
 //! reads a CSV file once, checks and packs its rows, and writes one table file with the same writes and syncs; `twin dump
-//! DIR NAMES COLUMNS` checks that table and writes its rows as CSV. COLUMNS are kinds with commas between: `int`, `dec2`,
+//! DIR NAMES COLUMNS` checks that table and writes its rows as CSV; `twin join DIR LEFT COLUMNS RIGHT COLUMNS` joins two
+//! files by the second column of the left one and the first of the right one. COLUMNS are kinds with commas between: `int`, `dec2`,
 //! `text`, and `?` behind one that may be empty.
+use std::collections::HashMap;
 use std::error::Error;
 use std::fs::{self, OpenOptions};
 use std::io::{Read, Seek, SeekFrom, Write};
@@ -160,11 +162,49 @@ fn commit(file: &mut fs::File, gate: u64, behind: &[u8]) -> std::io::Result<()> 
 }
 
 fn load(dir: &Path, name: &str, columns: &[Column]) -> Outcome<()> {
-    let text = fs::read(dir.join("flow.toml"))?;
     let bytes = fs::read(dir.join(name))?;
     let rows = read_rows(&bytes, columns)?;
     drop(bytes);
+    write_table(dir, &rows)
+}
 
+/// Joins two files on the second column of the left one and the first of the right one, which are ints, by a table of
+/// hashes.
+fn join(dir: &Path, left: (&str, &[Column]), right: (&str, &[Column])) -> Outcome<()> {
+    let bytes = fs::read(dir.join(right.0))?;
+    let mut rights = Vec::new();
+    let mut places: HashMap<i64, Vec<(usize, usize)>> = HashMap::new();
+    each_record(&bytes, right.1, |record| {
+        let Lent::Int(key) = read_field(&record[0], right.1[0])? else { return Ok(()) };
+        let start = rights.len();
+        for (field, column) in record.iter().zip(right.1).skip(1) {
+            pack(read_field(field, *column)?, &mut rights);
+        }
+        places.entry(key).or_default().push((start, rights.len()));
+        Ok(())
+    })?;
+    let bytes = fs::read(dir.join(left.0))?;
+    let mut rows = Packed { bytes: Vec::new(), ends: Vec::new() };
+    let mut row = Vec::new();
+    each_record(&bytes, left.1, |record| {
+        row.clear();
+        for (field, column) in record.iter().zip(left.1) {
+            pack(read_field(field, *column)?, &mut row);
+        }
+        let Lent::Int(key) = read_field(&record[1], left.1[1])? else { return Ok(()) };
+        for (start, end) in places.get(&key).into_iter().flatten() {
+            rows.bytes.extend_from_slice(&row);
+            rows.bytes.extend_from_slice(&rights[*start..*end]);
+            rows.ends.push(rows.bytes.len());
+        }
+        Ok(())
+    })?;
+    drop(bytes);
+    write_table(dir, &rows)
+}
+
+fn write_table(dir: &Path, rows: &Packed) -> Outcome<()> {
+    let text = fs::read(dir.join("flow.toml"))?;
     let mut head = b"WHTABLE".to_vec();
     head.extend_from_slice(&1u32.to_be_bytes());
     head.extend_from_slice(&(text.len() as u32).to_be_bytes());
@@ -291,6 +331,10 @@ fn main() -> Outcome<()> {
         ["dump", dir, names, columns] => {
             dump(Path::new(dir), &names.split(',').collect::<Vec<_>>(), &columns_of(columns)?)
         }
-        _ => Err("usage: twin load DIR FILE COLUMNS, twin dump DIR NAMES COLUMNS".into()),
+        ["join", dir, left, lefts, right, rights] => {
+            join(Path::new(dir), (left, &columns_of(lefts)?), (right, &columns_of(rights)?))
+        }
+        _ => Err("usage: twin load DIR FILE COLUMNS, twin dump DIR NAMES COLUMNS, twin join DIR FILE COLUMNS FILE COLUMNS"
+            .into()),
     }
 }

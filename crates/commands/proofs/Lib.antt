@@ -6,3 +6,4 @@ pub mod Begun
 pub mod Dumped
 pub mod Kept
 pub mod Again
+pub mod Numbers

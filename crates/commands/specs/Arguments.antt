@@ -1,6 +1,17 @@
 -- The commands, as lists of words.
-use Rattle.std.specs.Prelude.{ℕ, ℤ, pos, negsuc, List, [], ◌∷◌, Bool, false, ◌&&◌, ◌==◌, nat_le, bytes_eq, codes, if◌then◌else◌, Option, Some, None}
-use Rattle.plain_where.specs.Texts.{number_of}
+use Rattle.std.specs.Prelude.{ℕ, ℤ, pos, negsuc, List, [], ◌∷◌, length, Bool, false, ◌&&◌, ◌==◌, ◌^◌, nat_le, nat_lt, bytes_eq, codes, if◌then◌else◌, Option, Some, None}
+use Rattle.std.specs.Char.{is_ascii_digit}
+use Rattle.std.specs.List.{list_all}
+use Rattle.std.specs.Str.Parse.{digits_value}
+
+-- at least one digit, and nothing else
+abbrev pub are_digits : List ℕ → Bool
+are_digits text = nat_lt 0 (length text) && list_all is_ascii_digit text
+
+-- the number that a text of digits writes, where it is below 2^63
+abbrev pub number_of : List ℕ → Option ℤ
+number_of text =
+    if are_digits text && nat_lt (digits_value 10 text) (2 ^ 63) then Some (pos (digits_value 10 text)) else None
 
 -- the text begins with the digit 0
 abbrev pub begins_with_zero : List ℕ → Bool

@@ -68,6 +68,10 @@ cause_text cause.UsedTwice = codes "is used twice"
 cause_text cause.NotReached = codes "is not reached from the table"
 cause_text (cause.UnknownColumn column) = codes "unknown column " ++ column
 cause_text (cause.DoubleColumn column) = codes "column " ++ (column ++ codes " comes twice")
+cause_text cause.KindDiffers = codes "kinds differ"
+cause_text (cause.BadExpr at what) = codes "expression is wrong at " ++ decimal at
+cause_text cause.BadType = codes "expression has the wrong kinds"
+cause_text cause.TooManyColumns = codes "more than 64 columns"
 
 -- what is wrong with a field, in words
 abbrev pub field_text : FieldFault → List ℕ

@@ -1,6 +1,6 @@
 -- The words of clauses, from one place.
-pub use Rattle.commands.specs.Arguments.{batch_in, batch_number, begins_with_zero, default_batch, given_batch}
-pub use Rattle.commands.specs.Arguments.{is_dump}
+pub use Rattle.commands.specs.Arguments.{are_digits, batch_in, batch_number, begins_with_zero, default_batch}
+pub use Rattle.commands.specs.Arguments.{given_batch, is_dump, number_of}
 pub use Rattle.commands.specs.Commands.{IsWithin, asked_in, job_for, loads}
 pub use Rattle.commands.specs.Reasons.{IsAsked, Tells, TellsView, exit_status_of, status_at, status_of}
 pub use Rattle.commands.specs.Reasons.{step_of}

@@ -174,6 +174,10 @@ fn cause_of(alloc: Global, cause: &SchemaCause) -> Result<String, AllocError>
             let column = column.as_str();
             format!(in alloc; "column {column} comes twice")
         }
+        SchemaCause::KindDiffers => String::from_str(alloc, "kinds differ"),
+        SchemaCause::BadExpr { at, .. } => format!(in alloc; "expression is wrong at {at}"),
+        SchemaCause::BadType => String::from_str(alloc, "expression has the wrong kinds"),
+        SchemaCause::TooManyColumns => String::from_str(alloc, "more than 64 columns"),
     }
 }
 

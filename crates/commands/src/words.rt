@@ -1,9 +1,9 @@
 // The words of the command line.
 ghost use Rattle.std.specs.Prelude.{◌≡◌, ◌≤◌, map, string_bytes, option_map, IfSome};
+ghost use Rattle.std.specs.Char.{is_ascii_digit};
+ghost use Rattle.std.specs.List.{list_all};
 ghost use Rattle.commands.specs.Words.{asked_in, IsWithin, asked_of, begins_with_zero, batch_number, default_batch};
-ghost use Rattle.commands.specs.Words.{given_batch, batch_in, is_dump};
-
-use plain_where::number_of;
+ghost use Rattle.commands.specs.Words.{given_batch, batch_in, is_dump, are_digits, number_of};
 
 /// A command.
 #[derive(Clone, Copy, Debug, PartialEq, Eq)]
@@ -92,6 +92,29 @@ fn batch_number(text: &str) -> Option<u32>
         Some(number) if 1 <= number && number <= MAX_BATCH => Some(number as u32),
         _ => None,
     }
+}
+
+// The number of a text of digits, where it is below 2^63. A sign is no digit.
+#[tactic(auto, using(crate::proofs::Numbers::parsed_digits))]
+fn number_of(text: &str) -> Option<i64>
+    ensures { result ≡ number_of text.now }
+{
+    if !are_digits(text.as_bytes()) {
+        return None;
+    }
+    text.parse::<i64>().ok()
+}
+
+fn are_digits(text: &[u8]) -> bool
+    ensures { result ≡ are_digits text.now }
+{
+    !text.is_empty() && are_all_digits(text)
+}
+
+fn are_all_digits(text: &[u8]) -> bool
+    ensures { result ≡ list_all is_ascii_digit text.now }
+{
+    text.iter().all(|b| b.is_ascii_digit())
 }
 
 fn begins_with_zero(text: &str) -> bool

@@ -1,5 +1,5 @@
 -- The batches of the trees that stand when nodes were taken one after the other.
-use Rattle.std.proofs.Common.{◌≡◌, ℕ, zero, suc, ◌+◌, ◌-◌, ◌<◌, ◌≤◌, ◌==◌, List, [], ◌∷◌, ◌++◌, length, take, drop, map, fold, get_or, slice_get, count_by, cond, Bool, true, eq-eqb, Some, IfSome, refl, ap, sym, ◌∙◌, subst, arith}
+use Rattle.std.proofs.Common.{◌≡◌, ℕ, zero, suc, ◌+◌, ◌-◌, ◌<◌, ◌≤◌, ◌==◌, List, [], ◌∷◌, ◌++◌, length, take, drop, map, fold, get_or, slice_get, count_by, cond, Bool, true, eq-eqb, Some, IfSome, refl, ap, sym, ◌∙◌, subst, inl, inr, arith}
 use Rattle.std.proofs.lemmas.List.{length-map, map-append, take-map, drop-map, take_all, take_more, drop_more}
 use Rattle.std.proofs.lemmas.List.Sums.{fold-append, sum_by-cons}
 use Rattle.std.proofs.lemmas.Option.{same_Some}
@@ -7,7 +7,6 @@ use Rattle.tuple_schema.specs.declared.schema.Column.{Column}
 use Rattle.row_batch.specs.Packing.{BatchOf}
 use Rattle.list_algebra.specs.Bags.{Tuple}
 use Rattle.list_algebra.specs.Trees.{Tree, node, root_of, roots_of, trees_of, with_node, trees_in, EachNext}
-use Rattle.flow_types.specs.declared.node.Kind.{Kind}
 use Rattle.flow_types.specs.declared.node.Kind.TheVariants as kind
 use Rattle.flow_types.specs.declared.node.Node.{Node}
 use Rattle.flow_types.specs.Flows.{number_of, count_inputs, columns_of, ids_of}
@@ -15,6 +14,7 @@ use Rattle.flow_types.specs.Linked.{IsOver, IsLinked, IsLinkedOver, AreApart}
 use Rattle.kind_laws.specs.Outputs.{output_of}
 use Rattle.kind_laws.specs.Wholes.{Lists, list_of, lists_of}
 use Rattle.kind_laws.specs.Laws.{CanTake}
+use Rattle.kind_laws.proofs.Inputs.{source_or_over}
 
 roots-list : (trees : List (Tree Node)) → roots_of (trees_of trees) ≡ map root_of trees
 roots-list [] = refl
@@ -59,17 +59,15 @@ module _ (truth : Lists) (n : Node) (trees : List (Tree Node)) (linked : IsLinke
   -- any other gives what its kind makes of the lists below it
   pub made_list : ((file : _) → n.kind ≡ kind.Source file → ⊥)
       → list_of truth (node n (trees_of trees)) ≡ output_of n.kind (columns_of (map root_of trees)) (map (λ (b : BatchOf). b.rows) (map (batch_of truth) trees))
-  made_list no_source = by n.kind refl trees over.over ∙ ap (output_of n.kind (columns_of (map root_of trees))) (sym (rows_batches truth trees))
+  made_list no_source = by trees over.over ∙ ap (output_of n.kind (columns_of (map root_of trees))) (sym (rows_batches truth trees))
     where
-      by : (k : Kind) → n.kind ≡ k → (ts : List (Tree Node)) → IsOver n.kind (columns_of (map root_of ts)) n.schema
+      by : (ts : List (Tree Node)) → IsOver n.kind (columns_of (map root_of ts)) n.schema
           → list_of truth (node n (trees_of ts)) ≡ output_of n.kind (columns_of (map root_of ts)) (map (list_of truth) ts)
-      by (kind.Source file) is ts over = absurd (no_source file is)
-      by (kind.Select test) is [] over =
-          let none = subst (λ k. IsOver k [] n.schema) is over in let len = ap length none.0 in absurd (omega arith)
-      by (kind.Project from) is [] over =
-          let none = subst (λ k. IsOver k [] n.schema) is over in let len = none.0 in absurd (omega arith)
-      by (kind.Select test) is (t ∷ ts) over = rw (roots-list ts, lists-list truth ts) refl
-      by (kind.Project from) is (t ∷ ts) over = rw (roots-list ts, lists-list truth ts) refl
+      by [] over = elim (source_or_over n.kind [] n.schema over) [
+        | inl source ↦ absurd (no_source source.0 source.1)
+        | inr some ↦ absurd (omega arith)
+      ]
+      by (t ∷ ts) over = rw (roots-list ts, lists-list truth ts) refl
 
   -- a source has no inputs
   pub no_inputs : (file : _) → n.kind ≡ kind.Source file → count_inputs n ≡ 0

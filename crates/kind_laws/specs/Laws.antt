@@ -19,8 +19,7 @@ pub record CanTake (n : Node) (inputs : List Node) (batches : List BatchOf) : Ty
 -- the batch of a source, where there is one, has its columns
 abbrev pub HasOwnColumns : Kind → List Column → Option BatchOf → Type 0
 HasOwnColumns (kind.Source file) columns batch = IfSome batch (λ b. b.columns ≡ columns)
-HasOwnColumns (kind.Select test) columns batch = ⊤
-HasOwnColumns (kind.Project from) columns batch = ⊤
+HasOwnColumns _ columns batch = ⊤
 
 -- of these batches, one for each number, that of each source does
 abbrev pub SourcesHaveColumns : List Node → List BatchOf → Type 0
@@ -29,8 +28,7 @@ SourcesHaveColumns nodes batches = All (λ n. HasOwnColumns n.kind n.schema (sli
 -- the rows of a source's list fit its columns
 abbrev pub OwnFit : Kind → List Column → List Tuple → Type 0
 OwnFit (kind.Source file) columns rows = All (Fits columns) rows
-OwnFit (kind.Select test) columns rows = ⊤
-OwnFit (kind.Project from) columns rows = ⊤
+OwnFit _ columns rows = ⊤
 
 -- those of each source do
 abbrev pub SourcesFit : List Node → Lists → Type 0

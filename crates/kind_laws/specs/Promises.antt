@@ -13,8 +13,7 @@ use Rattle.kind_laws.specs.Laws.{SourcesFit}
 abbrev pub KeepsSource : Kind → List Tuple → Type 0
 KeepsSource (kind.Source source) rows = IfSome source.key (λ key. KeepsKey key rows)
     × IfSome source.grouped (λ cols. IsClustered cols rows)
-KeepsSource (kind.Select test) rows = ⊤
-KeepsSource (kind.Project from) rows = ⊤
+KeepsSource _ rows = ⊤
 
 -- the truth's lists fit their sources' columns, and keep what the sources declare
 pub record KeepsPromises (nodes : List Node) (truth : Lists) : Type 0 where
@@ -29,8 +28,7 @@ IsListed false truth listing = SameBag listing truth
 -- the same by kind: of a node that is no source nothing is listed
 abbrev pub ListsTruth : Kind → List Tuple → List Tuple → Type 0
 ListsTruth (kind.Source source) truth listing = IsListed source.seq truth listing
-ListsTruth (kind.Select test) truth listing = ⊤
-ListsTruth (kind.Project from) truth listing = ⊤
+ListsTruth _ truth listing = ⊤
 
 -- a listing of the truth, by each source
 abbrev pub IsListing : List Node → Lists → Lists → Type 0

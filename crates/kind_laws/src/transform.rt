@@ -1,5 +1,8 @@
 // The nodes of a flow as transforms of whole lists.
-use crate::kinds::{project, select};
+use crate::joining::{join, lookup};
+use crate::projecting::project;
+use crate::mapping::map;
+use crate::selecting::select;
 use flow_types::{Kind, Node};
 use row_batch::Batch;
 use std::alloc::Global;
@@ -47,14 +50,19 @@ impl Transform for Law<'_> {
 
     ghost takes = { λ law. CanTake law.node.now (map (λ n. n.now) law.inputs.items) };
 
-    fn out(&self, alloc: Global, mut lists: Vec<Batch>) -> Result<Batch, Memory> {
-        let Some(rows) = lists.pop() else {
-            return Batch::new(alloc, &self.node.schema);
-        };
+    fn out(&self, alloc: Global, lists: Vec<Batch>) -> Result<Batch, Memory> {
+        let columns = &self.node.schema;
         match &self.node.kind {
-            Kind::Source(_) => Ok(rows),
-            Kind::Select { test } => select(alloc, test, &rows),
-            Kind::Project { from } => project(alloc, from.places(), &self.node.schema, &rows),
+            Kind::Source(_) => Batch::new(alloc, columns),
+            Kind::Select { test } => select(alloc, test, &lists[0]),
+            Kind::Project { from } => project(alloc, from.places(), columns, &lists[0]),
+            Kind::Map { sets } => map(alloc, sets.items(), columns, &lists[0]),
+            Kind::Join { left, right } => {
+                join(alloc, left.places(), right.places(), columns, &lists[0], &lists[1])
+            }
+            Kind::Lookup { left, right } => {
+                lookup(alloc, left.places(), right.places(), columns, &lists[0], &lists[1])
+            }
         }
     }
 }

@@ -9,13 +9,15 @@ use Rattle.std.proofs.lemmas.Option.{same_Some}
 use Rattle.list_algebra.specs.Bags.{Tuple}
 use Rattle.list_algebra.specs.Trees.{Tree, node, Trees, no_trees, tree, root_of, roots_of, in_order, all_in_order, EachNode, EachNodeBelow}
 use Rattle.outside.specs.Words.{Files}
+use Rattle.flow_types.specs.declared.node.Source.{Source}
 use Rattle.flow_types.specs.declared.node.Kind.{Kind}
 use Rattle.flow_types.specs.declared.node.Kind.TheVariants as kind
 use Rattle.flow_types.specs.declared.node.Node.{Node}
 use Rattle.flow_types.specs.Flows.{TypedFlow, root_in, tree_of, columns_of, keeps_order, has_fixed_root}
 use Rattle.flow_types.specs.Linked.{IsOver, IsLinkedOver, IsFlow}
 use Rattle.kind_laws.specs.Wholes.{Lists, by_number, taken, list_of, lists_of, whole_of}
-use Rattle.kind_laws.specs.Promises.{ListsTruth, IsListing}
+use Rattle.kind_laws.specs.Promises.{IsListed, ListsTruth, IsListing}
+use Rattle.kind_laws.proofs.Inputs.{source_or_over}
 use Rattle.kind_laws.specs.Runs.{Yield, at_root}
 use Rattle.load_runner.specs.declared.fault.SourceFault.{SourceFault}
 use Rattle.load_runner.specs.Jobs.{IsMade}
@@ -26,16 +28,22 @@ use Rattle.load_runner.proofs.Runs.{all_left, all_right, Rooted, rooted, Trimmin
 
 -- Sources that keep their order list the truth.
 
+own_listed : (truth listing : List Tuple) (k : Kind) (source : Source) → k ≡ kind.Source source
+    → keeps_order k ≡ true → ListsTruth k truth listing → taken listing [] ≡ taken truth []
+own_listed truth listing k source is ordered listed =
+    let seq : source.seq ≡ true = subst (λ j. keeps_order j ≡ true) is ordered in
+    let one : IsListed source.seq truth listing = subst (λ j. ListsTruth j truth listing) is listed in
+    let same : listing ≡ truth = rw seq at one in
+    ap (λ rows. rows ∷ []) same
+
 own_same : (truth listing : Lists) (n : Node) (k : Kind) (trees : Trees Node) → n.kind ≡ k → IsOver k (columns_of (roots_of trees)) n.schema
     → keeps_order k ≡ true → ListsTruth k (truth n) (listing n)
     → taken (listing n) (lists_of truth trees) ≡ taken (truth n) (lists_of truth trees)
-own_same truth listing n (kind.Source source) no_trees is over ordered listed =
-    let same : listing n ≡ truth n = rw ordered at listed in ap (λ rows. rows ∷ []) same
-own_same truth listing n (kind.Source source) (tree first rest) is over ordered listed = refl
-own_same truth listing n (kind.Select test) no_trees is over ordered listed = let none = ap length over.0 in absurd (omega arith)
-own_same truth listing n (kind.Select test) (tree first rest) is over ordered listed = refl
-own_same truth listing n (kind.Project from) no_trees is over ordered listed = let none = over.0 in absurd (omega arith)
-own_same truth listing n (kind.Project from) (tree first rest) is over ordered listed = refl
+own_same truth listing n k no_trees is over ordered listed = elim (source_or_over k [] n.schema over) [
+    | inl source ↦ own_listed (truth n) (listing n) k source.0 source.1 ordered listed
+    | inr some ↦ absurd (omega arith)
+  ]
+own_same truth listing n k (tree first rest) is over ordered listed = refl
 
 abbrev IsOrdered : Node → Type 0
 IsOrdered n = keeps_order n.kind ≡ true

@@ -11,8 +11,7 @@ use Rattle.load_runner.specs.Sources.{numbered}
 -- of a source its file, and of any other node nothing
 abbrev pub asked_at : Files → Kind → ℕ
 asked_at files (kind.Source source) = size_of (file_at files source.file)
-asked_at files (kind.Select test) = 0
-asked_at files (kind.Project from) = 0
+asked_at files _ = 0
 
 -- the same of a node that may be there
 abbrev pub asked_of : Files → Option Node → ℕ

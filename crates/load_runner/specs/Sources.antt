@@ -38,8 +38,7 @@ of_source id (Err fault) = Err (source_fault id fault)
 abbrev pub content_at : Files → Node → Kind → Result (List Tuple) SourceFault
 content_at files n (kind.Source source) = of_source n.id
     (source_content source.any_header n.schema (found_in 268435456 (file_at files source.file)))
-content_at files n (kind.Select test) = Ok []
-content_at files n (kind.Project from) = Ok []
+content_at files n _ = Ok []
 
 -- the same of a node that may be there
 abbrev pub content_of : Files → Option Node → Result (List Tuple) SourceFault

@@ -102,7 +102,7 @@ fn source_rows<D: Depot>(
     };
     match &node.kind {
         Kind::Source(source) => read_rows(alloc, depot, node.id, source, &node.schema),
-        Kind::Select { .. } | Kind::Project { .. } => Ok(Batch::new(alloc, any)?),
+        _ => Ok(Batch::new(alloc, any)?),
     }
 }
 

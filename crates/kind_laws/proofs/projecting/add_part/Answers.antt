@@ -4,7 +4,7 @@ use Rattle.tuple_schema.specs.declared.schema.Column.{Column}
 use Rattle.tuple_schema.specs.Schemas.{is_of}
 use Rattle.tuple_schema.specs.Tuples.{lent}
 use Rattle.kind_laws.proofs.Rows.{next_fits, part_more}
-use Rattle.kind_laws.proofs.kinds.add_part.Goals as goal
+use Rattle.kind_laws.proofs.projecting.add_part.Goals as goal
 
 -- the column of the value that is added
 next : (c : goal.After-field) → (column : Column) × (slice_get c.loop-place.parts.columns (length c.loop-place.parts.begun) ≡ Some column)

@@ -5,7 +5,7 @@ use Rattle.tuple_schema.specs.declared.value.Value.{Value}
 use Rattle.tuple_schema.specs.Tuples.{part}
 use Rattle.kind_laws.specs.Outputs.{projected}
 use Rattle.kind_laws.proofs.Rows.{fits-length, part_fits, places_within}
-use Rattle.kind_laws.proofs.kinds.project.Goals as goal
+use Rattle.kind_laws.proofs.projecting.project.Goals as goal
 
 pub add_part-requires-clause-within : goal.add_part-requires-clause-within
 add_part-requires-clause-within c = places_within c.args.rows.now.columns c.args.columns.now c.args.from.now c.row.result c.requires c.row.ensures.fits

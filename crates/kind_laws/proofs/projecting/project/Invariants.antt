@@ -1,6 +1,6 @@
 use Rattle.std.proofs.Common.{◌≡◌, [], take}
 use Rattle.kind_laws.specs.Outputs.{projected}
-use Rattle.kind_laws.proofs.kinds.project.Given as goal
+use Rattle.kind_laws.proofs.projecting.project.Given as goal
 
 abbrev pub invariant-loop-number : goal.invariant-loop-number
 invariant-loop-number l = record {

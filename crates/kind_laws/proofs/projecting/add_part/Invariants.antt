@@ -1,6 +1,6 @@
 use Rattle.std.proofs.Common.{◌≡◌, take}
 use Rattle.tuple_schema.specs.Tuples.{part}
-use Rattle.kind_laws.proofs.kinds.add_part.Given as goal
+use Rattle.kind_laws.proofs.projecting.add_part.Given as goal
 
 abbrev pub invariant-loop-place : goal.invariant-loop-place
 invariant-loop-place l = record {
