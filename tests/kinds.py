@@ -85,7 +85,7 @@ SETS = [
 # What `A` and `B` are joined on, likewise.
 ONS = [
     (["n"], "column d comes twice"), (["n", "d"], None), (["d", "n"], None), (["n", "d", "t = k"], None),
-    (["n = n", "d = d"], None), (["m = n", "d"], "column n comes twice"), (["m = n"], "column n comes twice"),
+    (["n = n", "d = d"], None), (["m = n", "d"], None), (["m = n"], "column d comes twice"),
     (["k"], "unknown column k"), (["t"], "unknown column t"), (["n = j"], "unknown column j"),
     (["k = j"], "unknown column k"), (["n", "t = j", "k"], "unknown column j"), (["n = k"], "kinds differ"),
     (["d = e"], "kinds differ"), (["n = d"], "kinds differ"), (["n = k", "j"], "unknown column j"),
@@ -164,7 +164,7 @@ MEANINGS = [
     ([("items", "price dec2", "count int?")], [assign("net = scale(price * count * 0.9, 2)", taken="items")],
      ["price,count\n10.00,3\n0.05,1\n1.00,\n"], "price,count,net\n10.00,3,27.00\n0.05,1,0.05\n1.00,,\n"),
     ([("items", "t text")], [assign("t = if(length(t) > 1, t, coalesce(t, ''))", "l = length(t)", taken="items")],
-     ["t\nab\n\"\"\n"], "t,l\nab,2\n\"\",0\n"),
+     ["t\nab\n\"\"\n"], "t,l\nab,2\n,0\n"),
     (REGIONS, [join("region", left="orders", right="reps")],
      ["order_no,region\n1,n\n2,s\n", "rep_no,region\n7,n\n8,n\n"], "order_no,region,rep_no\n1,n,7\n1,n,8\n"),
     (REGIONS, [lookup("region", left="orders", right="reps")],
