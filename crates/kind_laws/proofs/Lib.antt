@@ -1,2 +1,4 @@
 pub mod Rows
 pub mod Stacks
+pub mod Below
+pub mod Cells
