@@ -2,7 +2,8 @@
 ghost use Rattle.std.specs.Prelude.{◌≡◌, ◌+◌, ◌≤◌, length, Some, option_copied, IfSome, IfOk};
 ghost use Rattle.expr_lang.specs.Words.{Meaning, nothing, bytes, truly, ordering, truth_in, opposite, both, either};
 ghost use Rattle.expr_lang.specs.Words.{decided, tested, asks, is_nothing, followed_by, byte_count, seen};
-ghost use Rattle.expr_lang.specs.Words.{seen_number, IsShort};
+ghost use Rattle.expr_lang.specs.Words.{seen_number, IsShort, units, value_in};
+ghost use Rattle.tuple_schema.specs.Words.{lent, IsShort as IsShortValue};
 
 use crate::arithmetic::compare;
 use crate::logic::{Truth, decided};
@@ -10,9 +11,10 @@ use crate::number::Number;
 use expr_grammar::Operator;
 use std::alloc::Global;
 use std::cmp::Ordering;
-use tuple_schema::Memory;
+use tuple_schema::{FieldRef, Memory};
 
-/// A meaning. A text is lent by the row or the expression, or was made.
+/// What an expression means in a row. A text is lent by the row or the expression, or was made; a number has its
+/// places after the point.
 #[derive(Debug, Drop)]
 pub enum Held<'a> {
     Null,
@@ -43,10 +45,37 @@ impl Held<'_> {
         }
     }
 
+    /// Whether it is Null.
     pub fn is_null(&self) -> bool
         ensures { result ≡ is_nothing (seen self.now) }
     {
         matches!(self, Held::Null)
+    }
+
+    /// The value, lent: a number without places is an Int, and any other a Dec. A truth is no value of a column, and
+    /// is lent as Null.
+    pub fn field(&self) -> FieldRef<'_>
+        ensures value { lent result ≡ value_in (seen self.now) }
+        ensures short { IsShort (seen self.now) → IsShortValue (lent result) }
+    {
+        match self {
+            Held::Number(number) => number_field(*number),
+            Held::Lent(text) => FieldRef::Text(*text),
+            Held::Made(text) => FieldRef::Text(text.as_str()),
+            Held::Null | Held::Truth(_) => FieldRef::Null,
+        }
+    }
+}
+
+// A number without places is an Int, and any other a Dec.
+fn number_field(number: Number) -> FieldRef<'static>
+    ensures value { lent result ≡ value_in (units number.units number.places) }
+    ensures short { IsShortValue (lent result) }
+{
+    if number.places == 0 {
+        FieldRef::Int(number.units)
+    } else {
+        FieldRef::Dec(number.units)
     }
 }
 

@@ -1,3 +1,5 @@
 pub mod Rows
 pub mod Inputs
 pub mod Stacks
+pub mod Below
+pub mod Cells

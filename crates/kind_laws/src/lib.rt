@@ -11,6 +11,8 @@
 
 mod evaluation;
 mod kinds;
+mod mapping;
+mod selecting;
 mod transform;
 
 pub use evaluation::whole;

@@ -259,7 +259,8 @@ fn branch<'a, F: Fields>(
     }
 }
 
-/// The meaning of an expression in a row of these columns.
+/// What the expression means in a row of these columns. Its texts are lent by the row and the expression, and memory is
+/// taken only where texts are joined.
 #[cycle(evaluation)]
 pub fn evaluate<'a, F: Fields>(
     alloc: Global,

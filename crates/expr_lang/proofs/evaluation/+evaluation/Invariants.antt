@@ -1,6 +1,6 @@
 use Rattle.std.proofs.Common.{◌+◌, ◌*◌, max}
 use Rattle.expr_grammar.proofs.expr.Expr.TheLaws.{the_size}
-use Rattle.expr_lang.proofs.evaluate.+evaluation.Given as goal
+use Rattle.expr_lang.proofs.evaluation.+evaluation.Given as goal
 
 abbrev pub decreases-evaluate : goal.decreases-evaluate
 decreases-evaluate g l = 2 * the_size l.expr.now
