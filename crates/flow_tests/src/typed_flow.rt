@@ -17,7 +17,7 @@ node=[{name='s',kind='select',input='p',where='k > 1'},
 const NODES: [&str; 4] = [
     "0 a a.csv csv seq key 1 0 grouped 1: n m k",
     "2 p project 1 0 over 0: k n",
-    "1 s select Infix(Greater, Column(k), Number { units: 1, places: 0 }) over 2: k n",
+    "1 s select Infix(Greater, Boxed { inner: Column(k) }, Boxed { inner: Number { units: 1, places: 0 } }) over 2: k n",
     "3 q project 1 0 over 1: n k",
 ];
 
