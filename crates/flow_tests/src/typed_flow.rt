@@ -17,7 +17,7 @@ node=[{name='s',kind='select',input='p',where='k > 1'},
 const NODES: [&str; 4] = [
     "0 a a.csv csv seq key 1 0 grouped 1: n m k",
     "2 p project 1 0 over 0: k n",
-    "1 s select k over 2: k n",
+    "1 s select Infix(Greater, Boxed { inner: Column(k) }, Boxed { inner: Number { units: 1, places: 0 } }) over 2: k n",
     "3 q project 1 0 over 1: n k",
 ];
 
@@ -78,7 +78,7 @@ fn source_line(alloc: Global, source: &Source) -> Result<String, Fail> {
 fn kind_line(alloc: Global, kind: &Kind) -> Result<String, Fail> {
     match kind {
         Kind::Source(source) => source_line(alloc, source),
-        Kind::Select { test } => Ok(format!(in alloc; "select {}", test.column.as_str())?),
+        Kind::Select { test } => Ok(format!(in alloc; "select {test:?}")?),
         Kind::Project { from } => Ok(format!(in alloc; "project{}", places(alloc, from)?)?),
     }
 }

@@ -8,8 +8,6 @@ use Rattle.workflow_file.specs.declared.raw.RawSource.{RawSource}
 use Rattle.workflow_file.specs.declared.raw.RawNode.{RawNode}
 use Rattle.workflow_file.specs.declared.raw.RawFlow.{RawFlow}
 use Rattle.workflow_file.specs.Kept.{KeepsSource, KeepsNode, KeepsRules}
-use Rattle.plain_where.specs.declared.expr.Expr.{Expr}
-use Rattle.plain_where.specs.Texts.{expression_of}
 use Rattle.flow_types.specs.Built.{is_built_source, is_built_node, is_built}
 use Rattle.flow_types.specs.NodeTexts.{NodeText, source, select, project, text_of, text_at}
 use Rattle.flow_types.specs.Linked.{KeepsText}
@@ -40,7 +38,7 @@ says_something raw k n built h item =
     let fine : is_built_node n ≡ true = rw item (all_pass is_built_node raw.nodes k n (built_nodes raw built) h) in
     is_there (text_of n) (and_parts (is_none n.declare) (is_some (text_of n)) fine).1
 
-select_keeps : (o : Option Expr) (text : NodeText) → option_map select o ≡ Some text → KeepsText text
+select_keeps : (o : Option (List ℕ)) (text : NodeText) → option_map select o ≡ Some text → KeepsText text
 select_keeps None text is = absurd (cc)
 select_keeps (Some test) text is = let same : select test ≡ text = cc in rw (← same) tt
 
@@ -54,7 +52,7 @@ project_keeps n keeps (Some texts) at text is =
 node_keeps : (n : RawNode) → KeepsNode n → (text : NodeText) → text_of n ≡ Some text → KeepsText text
 node_keeps n keeps text is =
     elim (cases_Bool (bytes_eq n.kind (codes "select"))) [
-      | inl same ↦ select_keeps (option_and_then expression_of n.test) text (rw same at is)
+      | inl same ↦ select_keeps n.test text (rw same at is)
       | inr other ↦ elim (cases_Bool (bytes_eq n.kind (codes "project"))) [
         | inl same ↦ project_keeps n keeps n.columns refl text (rw (other, same) at is)
         | inr neither ↦ let none : None ≡ Some text = rw (other, neither) at is in absurd (cc)

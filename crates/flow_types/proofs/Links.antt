@@ -4,10 +4,9 @@ use Rattle.std.proofs.lemmas.List.{take_more, length-map, get_or-map}
 use Rattle.tuple_schema.specs.declared.memory.Stop.{Stop}
 use Rattle.tuple_schema.specs.declared.memory.Stop.TheVariants as stop
 use Rattle.tuple_schema.specs.Stops.{Fails, IfFault}
-use Rattle.plain_where.specs.Truths.{place_of}
 use Rattle.flow_types.specs.declared.fault.SchemaFault.{SchemaFault}
 use Rattle.flow_types.specs.declared.fault.SchemaCause.TheVariants as cause
-use Rattle.flow_types.specs.Names.{least, refused, unknown}
+use Rattle.flow_types.specs.Names.{least, refused, unknown, place_of}
 use Rattle.flow_types.specs.Graph.{fault_at, input_fault, inputs_exist}
 use Rattle.flow_types.proofs.Places.{least_is, least_none, least_passes}
 use Rattle.flow_types.proofs.Columns.{least_fails}

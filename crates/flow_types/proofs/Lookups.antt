@@ -3,8 +3,7 @@ use Rattle.std.proofs.Common.{◌≡◌, ℕ, ◌+◌, ◌<◌, ◌≤◌, List,
 use Rattle.std.proofs.lemmas.List.{take_more, drop_more, map-append, take-map, get_or-map, length-map}
 use Rattle.std.proofs.lemmas.List.Elements.{filter_map-append}
 use Rattle.tuple_schema.specs.Texts.{is_among}
-use Rattle.plain_where.specs.Truths.{place_of}
-use Rattle.flow_types.specs.Names.{again, is_again, unknown}
+use Rattle.flow_types.specs.Names.{again, is_again, unknown, place_of}
 use Rattle.flow_types.proofs.Places.{least_is, least_none}
 
 module _ {X : Type 0} (see : X → List ℕ) where

@@ -17,9 +17,7 @@ use Rattle.flow_types.specs.Trees.{inputs_below, IsWhole}
 use Rattle.flow_types.proofs.Whole.{whole_inputs}
 use Rattle.flow_types.proofs.Links.{inputs_counted}
 use Rattle.flow_types.specs.NodeTexts.{NodeText, source, select, project, text_of, text_at, inputs_needed}
-use Rattle.plain_where.specs.declared.expr.Expr.{Expr}
 use Rattle.flow_types.proofs.KeptTexts.{all_pass, built_nodes}
-use Rattle.plain_where.specs.Texts.{expression_of}
 
 -- the kinds that are built have no other input
 no_other_input : (kind : List ℕ) → (kind ≡ codes "select") ⊎ (kind ≡ codes "project")
@@ -102,7 +100,7 @@ count_links flow =
 
 -- What a node says needs as many inputs as it names.
 
-select_one : (o : Option Expr) (text : NodeText) → option_map select o ≡ Some text → inputs_needed text ≡ 1
+select_one : (o : Option (List ℕ)) (text : NodeText) → option_map select o ≡ Some text → inputs_needed text ≡ 1
 select_one None text is = absurd (cc)
 select_one (Some test) text is = let same : select test ≡ text = cc in rw (← same) refl
 
@@ -113,7 +111,7 @@ project_one (Some texts) text is = let same : project texts ≡ text = cc in rw 
 needed_one : (n : RawNode) (text : NodeText) → text_of n ≡ Some text → inputs_needed text ≡ 1
 needed_one n text is =
     elim (cases_Bool (bytes_eq n.kind (codes "select"))) [
-      | inl same ↦ select_one (option_and_then expression_of n.test) text (rw same at is)
+      | inl same ↦ select_one n.test text (rw same at is)
       | inr other ↦ elim (cases_Bool (bytes_eq n.kind (codes "project"))) [
         | inl same ↦ project_one n.columns text (rw (other, same) at is)
         | inr neither ↦ let none : None ≡ Some text = rw (other, neither) at is in absurd (cc)

@@ -7,7 +7,7 @@ use Rattle.std.proofs.lemmas.List.{map-append, take_more}
 use Rattle.std.proofs.lemmas.Cmp.{nat_list_eq_equiv}
 use Rattle.std.proofs.lemmas.Iterator.Adapters.{position_from-zero}
 use Rattle.tuple_schema.specs.Texts.{is_among}
-use Rattle.plain_where.specs.Truths.{place_of}
+use Rattle.flow_types.specs.Names.{place_of}
 
 module _ {K : Type 0} (see : K → List ℕ) where
   -- a name has a number where it is among those before it

@@ -28,4 +28,4 @@ HoldsCell input None place column = IsTaken input place column
 pub record IsAssigned (input : List Column) (sets : List Assign) (columns : List Column) : Type 0 where
   pub wide : length columns ≡ width_of (length input) sets
   pub each : (place : ℕ) (column : Column) → slice_get columns place ≡ Some column
-    → HoldsCell input (set_at sets place) place column
+      → HoldsCell input (set_at sets place) place column

@@ -28,7 +28,3 @@ stated_column text = record {
   kind = kind_of (without_mark (word_in text));
   nullable = is_marked (word_in text);
 }
-
--- `NAME int`: whole numbers that are always there
-abbrev pub is_int_column : List ℕ → Bool
-is_int_column text = bytes_eq (word_in text) (codes "int")

@@ -5,12 +5,11 @@ use Rattle.tuple_schema.specs.Stops.{◌>>=◌}
 use Rattle.list_algebra.specs.Trees.{Tree, in_order}
 use Rattle.workflow_file.specs.declared.raw.RawNode.{RawNode}
 use Rattle.workflow_file.specs.declared.raw.RawFlow.{RawFlow}
-use Rattle.plain_where.specs.Truths.{place_of}
 use Rattle.flow_types.specs.declared.fault.NodeId.{NodeId}
 use Rattle.flow_types.specs.declared.fault.SchemaCause.{SchemaCause}
 use Rattle.flow_types.specs.declared.fault.SchemaCause.TheVariants as cause
 use Rattle.flow_types.specs.declared.fault.SchemaFault.{SchemaFault}
-use Rattle.flow_types.specs.Names.{least, again, unknown, refused}
+use Rattle.flow_types.specs.Names.{least, again, unknown, refused, place_of}
 use Rattle.flow_types.specs.Trees.{tree_below}
 
 -- the names of the nodes: the sources, then the others, each in the order of the file

@@ -1,5 +1,6 @@
 pub mod Columns
 pub mod Names
+pub mod Expressions
 pub mod Trees
 pub mod Graph
 pub mod NodeTexts

@@ -1,17 +1,18 @@
 -- What holds of the nodes of a typed flow: each is over its inputs, whose columns it takes.
-use Rattle.std.specs.Prelude.{◌≡◌, ◌≤◌, ◌<◌, ◌==◌, ℕ, List, [], ◌∷◌, length, map, count_by, slice_get, All, IsSome, IsTrue, Some, true, false, ⊤}
+use Rattle.std.specs.Prelude.{◌≡◌, ◌≤◌, ◌<◌, ◌==◌, ℕ, List, [], ◌∷◌, length, map, count_by, slice_get, All, IsTrue, Some, Ok, true, false, ⊤}
 use Rattle.std.specs.List.{AllZip}
 use Rattle.tuple_schema.specs.declared.schema.Column.{Column}
 use Rattle.tuple_schema.specs.Schemas.{IsSchema, are_distinct}
 use Rattle.list_algebra.specs.Trees.{Tree, Trees, EachNode, roots_of, in_order}
 use Rattle.workflow_file.specs.Kept.{KeepsSource}
-use Rattle.plain_where.specs.Truths.{place_of}
+use Rattle.expr_lang.specs.Trees.{tree_of as expression_tree}
+use Rattle.expr_lang.specs.Kinds.{typing}
+use Rattle.expr_lang.specs.declared.kind.ExprKind.TheVariants as sort
 use Rattle.flow_types.specs.Built.{is_built_source}
 use Rattle.flow_types.specs.declared.node.Source.{Source}
 use Rattle.flow_types.specs.declared.node.Kind.{Kind}
 use Rattle.flow_types.specs.declared.node.Kind.TheVariants as kind
 use Rattle.flow_types.specs.declared.node.Node.{Node}
-use Rattle.flow_types.specs.Names.{names_in}
 use Rattle.flow_types.specs.NodeTexts.{NodeText, source, select, project}
 use Rattle.flow_types.specs.Flows.{TypedFlow, number_of, tree_of, columns_in, columns_of, ids_of}
 
@@ -35,13 +36,13 @@ pub record IsBuiltSource (s : Source) : Type 0 where
 -- what a node says keeps the rules, and is built
 abbrev pub KeepsText : NodeText → Type 0
 KeepsText (source s) = KeepsSource s × IsTrue (is_built_source s)
-KeepsText (select test) = ⊤
+KeepsText (select text) = ⊤
 KeepsText (project texts) = (1 ≤ length texts) × (length texts ≤ 64)
 
 -- a kind over inputs with these columns gives these columns
 abbrev pub IsOver : Kind → List (List Column) → List Column → Type 0
 IsOver (kind.Source s) inputs columns = (inputs ≡ []) × IsBuiltSource s
-IsOver (kind.Select test) inputs columns = (inputs ≡ columns ∷ []) × IsSome (place_of (names_in columns) test.column)
+IsOver (kind.Select test) inputs columns = (inputs ≡ columns ∷ []) × (typing columns (expression_tree test) ≡ Ok sort.Truth)
 IsOver (kind.Project from) inputs columns = (length inputs ≡ 1) × Takes (columns_in inputs 0) from columns
 
 -- a node over these inputs, whose columns are a schema

@@ -1,10 +1,10 @@
 -- Names in lists: which comes twice, and which isn't there.
-use Rattle.std.specs.Prelude.{ℕ, zero, suc, List, [], length, take, get_or, filter_map, find, map, Bool, is_none, if◌then◌else◌, Option, Some, None, option_map, Result, Ok, Err}
+use Rattle.std.specs.Prelude.{ℕ, zero, suc, List, [], length, take, get_or, filter_map, find, map, bytes_eq, Bool, is_none, if◌then◌else◌, Option, Some, None, option_map, Result, Ok, Err}
+use Rattle.std.specs.List.{position}
 use Rattle.std.specs.Option.{option_or}
 use Rattle.tuple_schema.specs.Stops.{◌>>=◌}
 use Rattle.tuple_schema.specs.declared.schema.Column.{Column}
 use Rattle.tuple_schema.specs.Texts.{is_among}
-use Rattle.plain_where.specs.Truths.{place_of}
 use Rattle.flow_types.specs.declared.fault.SchemaCause.{SchemaCause}
 use Rattle.flow_types.specs.declared.fault.SchemaCause.TheVariants as cause
 
@@ -12,6 +12,10 @@ use Rattle.flow_types.specs.declared.fault.SchemaCause.TheVariants as cause
 unfoldable pub least : ℕ → (ℕ → Bool) → Option ℕ
 least zero test = None
 least (suc n) test = option_or (least n test) (if test n then Some n else None)
+
+-- the first place of a name
+abbrev pub place_of : List (List ℕ) → List ℕ → Option ℕ
+place_of names name = position (λ n. bytes_eq n name) names
 
 -- the name at a place
 abbrev pub name_at : List (List ℕ) → ℕ → List ℕ

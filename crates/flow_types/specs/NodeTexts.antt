@@ -4,21 +4,19 @@ use Rattle.std.specs.Option.{option_or}
 use Rattle.workflow_file.specs.declared.raw.RawSource.{RawSource}
 use Rattle.workflow_file.specs.declared.raw.RawNode.{RawNode}
 use Rattle.workflow_file.specs.declared.raw.RawFlow.{RawFlow}
-use Rattle.plain_where.specs.declared.expr.Expr.{Expr}
-use Rattle.plain_where.specs.Texts.{expression_of}
 use Rattle.flow_types.specs.declared.node_text.NodeText.{NodeText as LentText}
 use Rattle.flow_types.specs.declared.node_text.NodeText.TheVariants as lent
 
--- a source, a selection by its test, or a projection by the texts of its columns
+-- a source, a selection by the text of its test, or a projection by the texts of its columns
 pub data NodeText : Type 0 where
   source : RawSource → NodeText
-  select : Expr → NodeText
+  select : List ℕ → NodeText
   project : List (List ℕ) → NodeText
 
 -- what a node that is no source says, where its kind is built and it has what that needs
 abbrev pub text_of : RawNode → Option NodeText
 text_of n =
-    if bytes_eq n.kind (codes "select") then option_map select (option_and_then expression_of n.test)
+    if bytes_eq n.kind (codes "select") then option_map select n.test
     else if bytes_eq n.kind (codes "project") then option_map project n.columns
     else None
 
@@ -37,5 +35,5 @@ inputs_needed (project texts) = 1
 -- what is lent of a raw flow, as it is
 abbrev pub text_seen : LentText → NodeText
 text_seen (lent.Source s) = source s.now
-text_seen (lent.Select test) = select test
+text_seen (lent.Select test) = select test.now
 text_seen (lent.Project texts) = project texts.now

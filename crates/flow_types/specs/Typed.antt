@@ -1,5 +1,5 @@
 -- The typed flow: the columns and the kind of each node, or its first fault.
-use Rattle.std.specs.Prelude.{ℕ, List, [], ◌∷◌, map, filter_map, slice_get, unwrap_or, codes, bytes_eq, Bool, false, Option, Some, None, option_map, option_and_then, Result, Ok, Err}
+use Rattle.std.specs.Prelude.{ℕ, List, [], map, filter_map, slice_get, unwrap_or, codes, bytes_eq, Bool, false, Option, Some, None, option_map, option_and_then, Result, Ok, Err}
 use Rattle.tuple_schema.specs.Stops.{◌>>=◌}
 use Rattle.list_algebra.specs.Trees.{Tree, node, Trees, no_trees, tree, roots_of, in_order}
 use Rattle.tuple_schema.specs.declared.schema.Column.{Column}
@@ -7,8 +7,6 @@ use Rattle.workflow_file.specs.declared.raw.RawSource.{RawSource}
 use Rattle.workflow_file.specs.declared.raw.RawFlow.{RawFlow}
 use Rattle.tuple_schema.specs.Texts.{head_of, rest_of}
 use Rattle.flow_types.specs.Columns.{stated_column}
-use Rattle.plain_where.specs.declared.expr.Expr.{Expr}
-use Rattle.plain_where.specs.Truths.{place_of}
 use Rattle.flow_types.specs.declared.fault.SchemaCause.{SchemaCause}
 use Rattle.flow_types.specs.declared.fault.SchemaCause.TheVariants as cause
 use Rattle.flow_types.specs.declared.fault.SchemaFault.{SchemaFault}
@@ -16,8 +14,9 @@ use Rattle.flow_types.specs.declared.node.Node.{Node}
 use Rattle.flow_types.specs.declared.node.Source.{Source}
 use Rattle.flow_types.specs.declared.node.Kind.{Kind}
 use Rattle.flow_types.specs.declared.node.Kind.TheVariants as kind
-use Rattle.flow_types.specs.Names.{name_at, names_in, no_double, no_unknown, cols_if}
+use Rattle.flow_types.specs.Names.{name_at, names_in, no_double, no_unknown, cols_if, place_of}
 use Rattle.flow_types.specs.Flows.{TypedFlow, columns_in, columns_of, ids_of}
+use Rattle.flow_types.specs.Expressions.{test_of}
 use Rattle.flow_types.specs.NodeTexts.{NodeText, source, select, project, text_at}
 use Rattle.flow_types.specs.Graph.{names_of, id_of, fault_at, graph_of}
 
@@ -75,10 +74,10 @@ typed_source s = do
   cols ← source_cols (names_in (map stated_column s.columns)) s
   Ok (kind.Source (source_of s cols.0 cols.1), map stated_column s.columns)
 
--- those of a selection from these columns: its own has to be there
-abbrev pub typed_select : Expr → List Column → Result (Kind × List Column) SchemaCause
-typed_select test columns = do
-  _ ← no_unknown (names_in columns) (test.column ∷ [])
+-- those of a selection from these columns: its test has to be a truth of them
+abbrev pub typed_select : List ℕ → List Column → Result (Kind × List Column) SchemaCause
+typed_select text columns = do
+  test ← test_of columns text
   Ok (kind.Select test, columns)
 
 -- the places that a projection takes, and its columns: they have to be there, and have names of their own
@@ -97,7 +96,7 @@ typed_project texts columns = do
 -- the kind and the columns of a node that says this, over inputs with these columns
 abbrev pub typed_text : NodeText → List (List Column) → Result (Kind × List Column) SchemaCause
 typed_text (source s) inputs = typed_source s
-typed_text (select test) inputs = typed_select test (columns_in inputs 0)
+typed_text (select text) inputs = typed_select text (columns_in inputs 0)
 typed_text (project texts) inputs = typed_project texts (columns_in inputs 0)
 
 -- the same of what stands at a place, if something does

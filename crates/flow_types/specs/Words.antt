@@ -1,13 +1,13 @@
 -- The words of clauses, from one place.
-pub use Rattle.flow_types.specs.Columns.{is_int_column, is_marked, kind_of, stated_column, word_in}
-pub use Rattle.flow_types.specs.Names.{again, cols_if, cols_in, name_at, names_in, no_double, no_unknown}
+pub use Rattle.flow_types.specs.Columns.{is_marked, kind_of, stated_column, word_in}
+pub use Rattle.flow_types.specs.Names.{again, cols_if, cols_in, name_at, names_in, no_double, no_unknown, place_of}
+pub use Rattle.flow_types.specs.Expressions.{cause_of, expression_of, kind_over, only_truth, test_of}
 pub use Rattle.flow_types.specs.Trees.{IsWhole, inputs_below, tree_below}
 pub use Rattle.flow_types.specs.Graph.{AreWithin, ComeOnce, all_reached, fault_at, flow_tree, graph_of, id_of}
 pub use Rattle.flow_types.specs.Graph.{input_fault, input_names, inputs_exist, is_in, links_of, names_differ}
 pub use Rattle.flow_types.specs.Graph.{names_of, needs_of, root_at, used_once}
-pub use Rattle.flow_types.specs.NodeTexts.{inputs_needed, select, text_at, text_of, text_seen}
-pub use Rattle.flow_types.specs.Built.{has_ints, is_built, is_built_node, is_built_source, is_csv}
-pub use Rattle.flow_types.specs.Built.{is_selection, selects_ints}
+pub use Rattle.flow_types.specs.NodeTexts.{inputs_needed, text_at, text_of, text_seen}
+pub use Rattle.flow_types.specs.Built.{is_built, is_built_node, is_built_source, is_csv}
 pub use Rattle.flow_types.specs.Flows.{IsBelow, TypedFlow, columns_of, count_inputs, has_fixed_root, ids_of}
 pub use Rattle.flow_types.specs.Flows.{node_of, number_of, rank_of, root_in, tree_of}
 pub use Rattle.flow_types.specs.Typed.{at_node, is_word, new_name, output_columns, projection, renamed}

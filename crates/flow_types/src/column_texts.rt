@@ -2,7 +2,7 @@
 ghost use Rattle.std.specs.Prelude.{◌≡◌, map, All, IfOk, IsTrue};
 ghost use Rattle.tuple_schema.specs.Words.{HasScale};
 ghost use Rattle.workflow_file.specs.Words.{KeepsRule, column_lack, is_kind, without_mark};
-ghost use Rattle.flow_types.specs.Words.{word_in, kind_of, is_marked, stated_column, is_int_column};
+ghost use Rattle.flow_types.specs.Words.{word_in, kind_of, is_marked, stated_column};
 
 use crate::typing::head_of;
 use std::alloc::Global;
@@ -69,11 +69,4 @@ fn kind_of(word: &[u8]) -> ColumnKind
         return ColumnKind::Text;
     }
     ColumnKind::Dec(word[3] - b'0')
-}
-
-/// Whether the text is `NAME int`.
-pub fn is_int_column(text: &str) -> bool
-    ensures { result ≡ is_int_column text.now }
-{
-    word_in(text) == "int"
 }

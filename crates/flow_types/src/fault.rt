@@ -1,4 +1,5 @@
 // What may be wrong with a raw flow.
+use expr_grammar::ExprWhat;
 use tuple_schema::Text;
 
 /// A node of a flow: the sources in the order of the file from 0 on, then the transforms in that order.
@@ -20,6 +21,14 @@ pub enum SchemaCause {
     UnknownColumn { column: Text },
     /// The first column of a list that has the name of an earlier one.
     DoubleColumn { column: Text },
+    /// Two columns that a join pairs have different kinds.
+    KindDiffers,
+    /// The text of an expression is wrong at this byte of it.
+    BadExpr { at: u32, what: ExprWhat },
+    /// The kinds in an expression don't go together, or it is no truth in `where`, or a truth in `set`.
+    BadType,
+    /// There would be more than 64 columns.
+    TooManyColumns,
 }
 
 /// The first fault of a raw flow, and its node; None is the table.

@@ -25,8 +25,12 @@ pub struct Flow {
 impl Model for Flow {
     ghost use Rattle.flow_types.specs.Flows.{TypedFlow};
     ghost use Rattle.flow_types.specs.Linked.{IsFlow};
+    ghost use Rattle.expr_grammar.specs.contracts.expr.Expr as expression;
+    ghost use Rattle.std.specs.Coded.{codes};
 
     ghost Value = { TypedFlow };
+
+    ghost coded = { Prim.hlevel (codes, expression.the_row.coded) };
 
     ghost view = { λ f. record { nodes = f.nodes.items; key = f.key } };
 

@@ -3,10 +3,10 @@ ghost use Rattle.std.specs.Prelude.{◌≡◌, ◌-◌, ◌<◌, ◌≤◌, ◌+
 ghost use Rattle.std.specs.List.{concat};
 ghost use Rattle.tuple_schema.specs.Words.{Gives, GivesView, IfFault};
 ghost use Rattle.workflow_file.specs.Words.{KeepsRules};
-ghost use Rattle.plain_where.specs.Words.{place_of};
 ghost use Rattle.list_algebra.specs.Words.{in_order};
 ghost use Rattle.flow_types.specs.Words.{tree_below, inputs_below, IsWhole, names_of, input_names, needs_of};
 ghost use Rattle.flow_types.specs.Words.{links_of, AreWithin, fault_at, input_fault, inputs_exist, root_at};
+ghost use Rattle.flow_types.specs.Words.{place_of};
 ghost use Rattle.flow_types.specs.Words.{used_once, is_in, all_reached, flow_tree, graph_of, ComeOnce};
 
 use crate::fault::{NodeId, SchemaCause, SchemaFault};

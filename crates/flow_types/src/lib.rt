@@ -1,10 +1,11 @@
 //! Typed flows: names looked up, the columns of each node found, or the first fault in them.
 //!
-//! Stands on `workflow_file`, whose raw flows it types, on `plain_where`, on `list_algebra`, which has the trees,
-//! and on `indexmap`, which numbers the names; `kind_laws` gives the nodes their meaning. Read `specs/Graph.antt`
-//! first, how nodes are named and reached, then `specs/Typed.antt`, their columns and the order of faults,
-//! `specs/Flows.antt`, a flow and its tree, and `specs/Linked.antt`, what holds of each flow. Built at this stage
-//! are sequences in CSV files, selections of whole numbers and projections: `is_built`.
+//! Stands on `workflow_file`, whose raw flows it types, on `expr_grammar` and `expr_lang`, which read expressions
+//! and type them, on `list_algebra`, which has the trees, and on `indexmap`, which numbers the names; `kind_laws`
+//! gives the nodes their meaning. Read `specs/Graph.antt` first, how nodes are named and reached, then
+//! `specs/Typed.antt`, their columns and the order of faults, `specs/Flows.antt`, a flow and its tree, and
+//! `specs/Linked.antt`, what holds of each flow. Built at this stage are sequences in CSV files, selections and
+//! projections: `is_built`.
 //!
 //! Promised: `type_flow` answers the typed flow or its first fault; every `Flow` is the nodes of one tree, inputs
 //! first, no two of one number or one name, each over the columns of its inputs, and ranks above them; `tree_laws`: the
@@ -14,6 +15,7 @@
 
 mod built;
 mod column_texts;
+mod expressions;
 mod fault;
 mod flow;
 mod graph;

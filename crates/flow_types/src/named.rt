@@ -1,8 +1,7 @@
 // The places of the nodes by their names.
 ghost use Rattle.std.specs.Prelude.{◌≡◌, ◌<◌, ◌≤◌, map, length, IfOk, IfSome};
 ghost use Rattle.tuple_schema.specs.Words.{GivesView};
-ghost use Rattle.plain_where.specs.Words.{place_of};
-ghost use Rattle.flow_types.specs.Words.{names_differ};
+ghost use Rattle.flow_types.specs.Words.{names_differ, place_of};
 
 use crate::fault::{SchemaCause, SchemaFault};
 use crate::graph::fault_at;

@@ -2,8 +2,7 @@
 ghost use Rattle.std.specs.Prelude.{◌≡◌, ◌<◌, map, length, bytes_eq, position, filter_map, IfOk, IfSome};
 ghost use Rattle.std.specs.List.{list_any};
 ghost use Rattle.tuple_schema.specs.Words.{Gives, GivesView, is_among};
-ghost use Rattle.plain_where.specs.Words.{place_of};
-ghost use Rattle.flow_types.specs.Words.{names_in, again, no_double, no_unknown, cols_in, cols_if};
+ghost use Rattle.flow_types.specs.Words.{names_in, again, no_double, no_unknown, cols_in, cols_if, place_of};
 
 use crate::fault::SchemaCause;
 use crate::node::Cols;

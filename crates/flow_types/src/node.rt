@@ -2,7 +2,7 @@
 ghost use Rattle.std.specs.Prelude.{◌≡◌};
 
 use crate::fault::NodeId;
-use plain_where::Expr;
+use expr_grammar::Expr;
 use std::marker::Model;
 use tuple_schema::{Listed, Names, Schema, Text};
 
@@ -83,7 +83,7 @@ pub struct Source {
 pub struct Assign {
     /// The column's place among those of the output.
     pub place: usize,
-    pub value: expr_grammar::Expr,
+    pub value: Expr,
 }
 
 /// What a map sets, in the order of its text.

@@ -2,8 +2,8 @@
 ghost use Rattle.std.specs.Prelude.{◌≡◌, ◌<◌, ◌≤◌, ◌+◌, [], ◌∷◌, Some, None, Ok, Err, map, length, vec_len, filter_map, slice_get, IsTrue, IfOk, IfSome, OnOk, All};
 ghost use Rattle.tuple_schema.specs.Words.{Gives, GivesView, IfFault, head_of, rest_of};
 ghost use Rattle.workflow_file.specs.Words.{KeepsRules, KeepsSource};
-ghost use Rattle.plain_where.specs.Words.{place_of};
-ghost use Rattle.flow_types.specs.Words.{names_in, no_double, no_unknown, tree_below, IsWhole, id_of, names_of};
+ghost use Rattle.flow_types.specs.Words.{names_in, no_double, no_unknown, place_of, tree_below, IsWhole, id_of};
+ghost use Rattle.flow_types.specs.Words.{names_of};
 ghost use Rattle.flow_types.specs.Words.{needs_of, links_of, inputs_exist, AreWithin, is_built, is_built_source};
 ghost use Rattle.flow_types.specs.Words.{text_at, text_seen, inputs_needed, ids_of, columns_of, new_name, renamed};
 ghost use Rattle.flow_types.specs.Words.{output_columns, source_cols, is_word, source_of, projection, typed_source};
@@ -11,12 +11,12 @@ ghost use Rattle.flow_types.specs.Words.{typed_select, typed_project, typed_text
 ghost use Rattle.flow_types.specs.Words.{IsBuiltSource, Takes, KeepsText, IsOver, IsLinked, HasTree};
 
 use crate::column_texts::stated_columns;
+use crate::expressions::test_of;
 use crate::fault::{NodeId, SchemaCause, SchemaFault};
 use crate::graph::{Link, fault_at, inputs_below};
 use crate::names::{cols_if, names_in, no_double, place_of};
 use crate::node::{Cols, Inputs, Kind, Node, Source};
 use crate::node_text::{NodeText, name_at, text_at};
-use plain_where::Expr;
 use std::alloc::Global;
 use tuple_schema::{Column, Memory, Names, Schema, Stop, Text, rest_of};
 use workflow_file::{RawFlow, RawSource};
@@ -103,7 +103,7 @@ fn type_node(
     ensures node { Gives result (typed_node raw.now place (map (λ n. n.now) inputs.now)) }
     ensures linked { IfOk result (λ n. IsLinked n (map (λ n. n.now) inputs.now)) }
 {
-    let text = text_at(alloc, raw, place)?;
+    let text = text_at(raw, place);
     let typed = type_text(alloc, text, inputs)?;
     Ok(Node {
         id: id_of(place),
@@ -155,7 +155,7 @@ fn type_text(
 {
     match text {
         NodeText::Source(source) => type_source(alloc, source),
-        NodeText::Select(test) => type_select(alloc, test, &inputs[0].schema),
+        NodeText::Select(text) => type_select(alloc, text, &inputs[0].schema),
         NodeText::Project(texts) => type_project(alloc, texts, &inputs[0].schema),
     }
 }
@@ -237,39 +237,15 @@ fn source_cols(
     Ok((key, grouped))
 }
 
-fn type_select(alloc: Global, test: Expr, input: &Schema) -> Result<Typed, Stop<SchemaCause>>
-    ensures typed { GivesView (λ t. (t.kind, t.schema)) result (typed_select test input.now) }
+fn type_select(alloc: Global, text: &Text, input: &Schema) -> Result<Typed, Stop<SchemaCause>>
+    ensures typed { GivesView (λ t. (t.kind, t.schema)) result (typed_select text.now input.now) }
     ensures over { IfOk result (λ t. IsOver t.kind (input.now ∷ []) t.schema) }
 {
-    find_column(alloc, input.columns(), &test.column)?;
-    let columns = copied(alloc, input.columns())?;
+    let test = test_of(alloc, input, text.as_str())?;
     Ok(Typed {
         kind: Kind::Select { test },
-        schema: Schema::of(columns),
+        schema: input.copy()?,
     })
-}
-
-// The same columns.
-fn copied(alloc: Global, columns: &[Column]) -> Result<Vec<Column>, Memory>
-    ensures { IfOk result (λ v. v.items ≡ columns.now) }
-{
-    let mut copies = Vec::new(alloc);
-    for column in columns {
-        copies.push(column.copy()?)?;
-    }
-    Ok(copies)
-}
-
-// Refuses a name that no column has.
-fn find_column(alloc: Global, columns: &[Column], name: &Text) -> Result<(), Stop<SchemaCause>>
-    ensures { Gives result (no_unknown (names_in columns.now) (name.now ∷ [])) }
-{
-    let names = names_in(alloc, columns)?;
-    if place_of(&names, name).is_some() {
-        return Ok(());
-    }
-    let column = name.copy()?;
-    Err(Stop::Fault(SchemaCause::UnknownColumn { column }))
 }
 
 fn type_project(alloc: Global, texts: &[Text], input: &Schema) -> Result<Typed, Stop<SchemaCause>>

@@ -1,6 +1,5 @@
 use Rattle.std.proofs.Common.{◌≡◌, map, take, drop, filter_map}
-use Rattle.plain_where.specs.Truths.{place_of}
-use Rattle.flow_types.specs.Names.{unknown}
+use Rattle.flow_types.specs.Names.{unknown, place_of}
 use Rattle.flow_types.proofs.names.places_of.Given as goal
 
 abbrev pub invariant-loop-name : goal.invariant-loop-name

@@ -2,8 +2,7 @@ use Rattle.std.proofs.Common.{◌≡◌, ◌<◌, Some, sym, ap, ◌∙◌, leng
 use Rattle.std.proofs.lemmas.List.{length-append, length-map}
 use Rattle.std.proofs.lemmas.List.Elements.{All-push}
 use Rattle.tuple_schema.specs.Texts.{head_of}
-use Rattle.plain_where.specs.Truths.{place_of}
-use Rattle.flow_types.specs.Names.{names_in}
+use Rattle.flow_types.specs.Names.{names_in, place_of}
 use Rattle.flow_types.specs.Typed.{new_name, renamed, output_column}
 use Rattle.flow_types.specs.Linked.{IsTaken}
 use Rattle.flow_types.proofs.Lookups.{found_more, known_more, filter_more}

@@ -1,7 +1,6 @@
 use Rattle.std.proofs.Common.{◌≡◌, map, take, drop, filter_map, length}
 use Rattle.tuple_schema.specs.Texts.{head_of}
-use Rattle.plain_where.specs.Truths.{place_of}
-use Rattle.flow_types.specs.Names.{names_in, unknown}
+use Rattle.flow_types.specs.Names.{names_in, unknown, place_of}
 use Rattle.flow_types.specs.Typed.{output_columns}
 use Rattle.flow_types.specs.Linked.{Takes}
 use Rattle.flow_types.proofs.typing.take_columns.Given as goal
