@@ -1,5 +1,5 @@
-pub mod Outputs
 pub mod Expressions
+pub mod Outputs
 pub mod Wholes
 pub mod Laws
 pub mod Promises

@@ -1,8 +1,9 @@
 //! What a flow means on whole lists: the list that each kind makes of the lists of its inputs.
 //!
 //! Stands on `flow_types`, whose nodes it gives their meaning, on `row_batch`, whose batches hold the lists, on
-//! `list_algebra` and on `plain_where`. `load_runner` loads what `whole` makes of the sources. Read
-//! `specs/Outputs.antt` first, one equation for each kind, then `specs/Wholes.antt`, the meaning of a flow.
+//! `expr_lang`, which evaluates expressions, and on `list_algebra`. `load_runner` loads what `whole` makes of the
+//! sources. Read `specs/Outputs.antt` first, one equation for each kind, with `specs/Expressions.antt` and
+//! `list_algebra/specs/Joins.antt`, then `specs/Wholes.antt`, the meaning of a flow.
 //!
 //! Promised: `Transform::out` is the kind's equation on all lists that have the inputs' columns, and `whole` is the
 //! meaning of the flow, over any number of sources; what each makes has the node's columns.
@@ -10,8 +11,9 @@
 #![tactic(auto)]
 
 mod evaluation;
-mod kinds;
+mod joining;
 mod mapping;
+mod projecting;
 mod selecting;
 mod transform;
 

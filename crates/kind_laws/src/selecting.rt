@@ -1,7 +1,7 @@
 // The rows of a list of which an expression is true.
 ghost use Rattle.std.specs.Prelude.{◌≡◌, IfOk};
 ghost use Rattle.expr_lang.specs.Words.{tree_of, truth_of};
-ghost use Rattle.kind_laws.specs.Expressions.{is_true, selected};
+ghost use Rattle.kind_laws.specs.Words.{is_true, selected};
 
 use expr_grammar::Expr;
 use expr_lang::{Truth, truth};
