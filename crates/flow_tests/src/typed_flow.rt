@@ -1,8 +1,8 @@
 // A typed flow: its nodes from the source on, their numbers and all that they hold.
-use flow_types::{Cols, Flow, Kind, Node, Source, is_built, type_flow};
+use flow_types::{Assigns, Cols, Flow, Kind, Node, Source, is_built, type_flow};
 use std::alloc::Global;
 use std::test::Fail;
-use tuple_schema::{Column, ColumnKind};
+use tuple_schema::{Column, ColumnKind, Stop};
 use workflow_file::read_flow;
 
 const FLOW: &[u8] = b"\
@@ -23,15 +23,17 @@ const NODES: [&str; 4] = [
 
 // The same of columns of every kind, under any header.
 const KINDS: &[u8] = b"\
-table={input='p'}
+table={input='m'}
 source=[{name='a',file='a.csv',header='any',format='csv',promise='seq',
 columns=['n int?','d dec1','e dec6?','s text','t text?']}]
-node=[{name='p',kind='project',input='a',columns=['t as u','d']}]
+node=[{name='p',kind='project',input='a',columns=['t as u','d']},
+{name='m',kind='map',input='p',set=['z = length(u)','d = 1.50']}]
 ";
 
-const KINDS_NODES: [&str; 2] = [
+const KINDS_NODES: [&str; 3] = [
     "0 a a.csv csv any seq key none grouped none: n? d.1 e.6? s' t'?",
     "1 p project 4 1 over 0: u'? d.1",
+    "2 m map 2 = Length(Boxed { inner: Column(u) }), 1 = Number { units: 150, places: 2 } over 1: u'? d.2 z?",
 ];
 
 fn typed(alloc: Global, text: &[u8]) -> Result<Flow, Fail> {
@@ -75,10 +77,22 @@ fn source_line(alloc: Global, source: &Source) -> Result<String, Fail> {
     )?)
 }
 
+fn sets_line(alloc: Global, sets: &Assigns) -> Result<String, Fail> {
+    let mut line = String::from_str(alloc, "map")?;
+    for set in sets.items() {
+        if line.len() > 3 {
+            line.push_str(",")?;
+        }
+        line.push_str(format!(in alloc; " {} = {:?}", set.place, set.value)?.as_str())?;
+    }
+    Ok(line)
+}
+
 fn kind_line(alloc: Global, kind: &Kind) -> Result<String, Fail> {
     match kind {
         Kind::Source(source) => source_line(alloc, source),
         Kind::Select { test } => Ok(format!(in alloc; "select {test:?}")?),
+        Kind::Map { sets } => sets_line(alloc, sets),
         Kind::Project { from } => Ok(format!(in alloc; "project{}", places(alloc, from)?)?),
     }
 }
@@ -115,6 +129,57 @@ fn the_nodes_come_from_the_source_on(rt: HostRuntime) -> Result<(), Fail> {
         for (node, want) in flow.nodes().iter().zip(wanted) {
             assert_eq!(rt; node_line(rt.alloc(), node)?.as_str(), *want);
         }
+    }
+    Ok(())
+}
+
+// A node over the columns `n int` and `t text`, and why it is none.
+const CAUSES: [(&str, &str); 8] = [
+    (
+        "kind='select',where='n >'",
+        "BadExpr { at: 3, what: Unexpected }",
+    ),
+    ("kind='select',where='k > t'", "UnknownColumn { column: k }"),
+    ("kind='select',where='t > 1'", "BadType"),
+    ("kind='select',where='n + 1'", "BadType"),
+    (
+        "kind='map',set=['k = ','x = x']",
+        "BadExpr { at: 0, what: Unexpected }",
+    ),
+    (
+        "kind='map',set=['k = n','k = x']",
+        "UnknownColumn { column: x }",
+    ),
+    ("kind='map',set=['k = n','k = n','x = n > 1']", "BadType"),
+    (
+        "kind='map',set=['k = n','n = 1','k = 2']",
+        "DoubleColumn { column: k }",
+    ),
+];
+
+fn cause(alloc: Global, node: &str) -> Result<String, Fail> {
+    let text = format!(in alloc;
+        "table={{input='q'}}\n{}\nnode=[{{name='q',input='a',{node}}}]\n",
+        "source=[{name='a',file='a.csv',promise='seq',columns=['n int','t text']}]"
+    )?;
+    if text.len() > 65536 {
+        return Err(Fail::new("longer than a flow file"));
+    }
+    let raw = read_flow(alloc, text.as_bytes())?;
+    if !is_built(&raw) {
+        return Err(Fail::new("not built"));
+    }
+    match type_flow(alloc, &raw) {
+        Ok(_) => Err(Fail::new("a flow")),
+        Err(Stop::Memory) => Err(Fail::new("no memory")),
+        Err(Stop::Fault(fault)) => Ok(format!(in alloc; "{:?}", fault.cause)?),
+    }
+}
+
+#[test]
+fn a_node_is_refused_by_its_first_cause(rt: HostRuntime) -> Result<(), Fail> {
+    for (node, want) in CAUSES {
+        assert_eq!(rt; cause(rt.alloc(), node)?.as_str(), want);
     }
     Ok(())
 }

@@ -18,7 +18,7 @@ use Rattle.workflow_file.specs.declared.fault.Lack.TheVariants as lack
 use Rattle.workflow_file.specs.Kept.{KeepsRule, AllKeep}
 use Rattle.workflow_file.specs.Texts.{is_kind, without_mark, is_column_rest, lack_unless, column_lack}
 use Rattle.flow_types.specs.Columns.{word_in, kind_of, stated_column}
-use Rattle.flow_types.specs.Linked.{IsTaken, Takes}
+use Rattle.flow_types.specs.Taken.{IsTaken, Takes}
 use Rattle.flow_types.specs.declared.fault.SchemaCause.TheVariants as cause
 use Rattle.flow_types.specs.Names.{least, name_at, is_again, again, no_double, names_in, place_of}
 use Rattle.flow_types.specs.Typed.{new_name, renamed, output_column}

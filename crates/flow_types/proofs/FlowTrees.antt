@@ -131,6 +131,7 @@ ordered n below is = by n.kind refl is.over
     by (kind.Source s) same over = let built = subst (λ k. IsOver k (columns_of below) n.schema) same over in rw same built.1.seq
     by (kind.Select test) same over = rw same refl
     by (kind.Project from) same over = rw same refl
+    by (kind.Map sets) same over = rw same refl
 
 -- each node of a flow keeps the order of rows
 pub fixed_root : (flow : TypedFlow) → IsFlow flow → has_fixed_root flow.nodes ≡ true

@@ -1,5 +1,5 @@
 -- What stands in a flow that keeps its rules and is built keeps its own.
-use Rattle.std.proofs.Common.{◌≡◌, ◌≢◌, is_some, is_none, ℕ, ◌-◌, ◌<◌, List, length, get_or, slice_get, codes, bytes_eq, Bool, true, refl, sym, ◌∙◌, inl, inr, Option, Some, None, option_map, option_and_then}
+use Rattle.std.proofs.Common.{◌≡◌, ◌≢◌, is_some, is_none, ℕ, ◌-◌, ◌<◌, List, length, get_or, slice_get, Bool, true, refl, sym, ◌∙◌, inl, inr, Option, Some, None, option_and_then}
 use Rattle.std.specs.List.{list_all}
 use Rattle.std.proofs.lemmas.Bool.{and_parts, cases_Bool, both_ways}
 use Rattle.std.proofs.lemmas.List.Folds.{list_all_at}
@@ -9,7 +9,8 @@ use Rattle.workflow_file.specs.declared.raw.RawNode.{RawNode}
 use Rattle.workflow_file.specs.declared.raw.RawFlow.{RawFlow}
 use Rattle.workflow_file.specs.Kept.{KeepsSource, KeepsNode, KeepsRules}
 use Rattle.flow_types.specs.Built.{is_built_source, is_built_node, is_built}
-use Rattle.flow_types.specs.NodeTexts.{NodeText, source, select, project, text_of, text_at}
+use Rattle.flow_types.specs.NodeTexts.{NodeText, source, text_of, text_at}
+use Rattle.flow_types.proofs.Said.{Said, by_test, by_columns, by_set, said}
 use Rattle.flow_types.specs.Linked.{KeepsText}
 
 pub all_pass : {X : Type 0} (p : X → Bool) (xs : List X) (k : ℕ) (d : X) → list_all p xs ≡ true → k < length xs → p (get_or xs k d) ≡ true
@@ -38,26 +39,15 @@ says_something raw k n built h item =
     let fine : is_built_node n ≡ true = rw item (all_pass is_built_node raw.nodes k n (built_nodes raw built) h) in
     is_there (text_of n) (and_parts (is_none n.declare) (is_some (text_of n)) fine).1
 
-select_keeps : (o : Option (List ℕ)) (text : NodeText) → option_map select o ≡ Some text → KeepsText text
-select_keeps None text is = absurd (cc)
-select_keeps (Some test) text is = let same : select test ≡ text = cc in rw (← same) tt
-
-project_keeps : (n : RawNode) → KeepsNode n → (o : Option (List (List ℕ))) → n.columns ≡ o → (text : NodeText) → option_map project o ≡ Some text → KeepsText text
-project_keeps n keeps None at text is = absurd (cc)
-project_keeps n keeps (Some texts) at text is =
-    let same : project texts ≡ text = cc in
+said_keeps : (n : RawNode) → KeepsNode n → (text : NodeText) → Said n text → KeepsText text
+said_keeps n keeps text (by_test test kind at is) = rw (← is) tt
+said_keeps n keeps text (by_columns texts kind at is) =
     let fits = rw at at keeps.columns.fits in
-    rw (← same) (fits.some, fits.few)
+    rw (← is) (fits.some, fits.few)
+said_keeps n keeps text (by_set texts kind at is) = rw (← is) tt
 
 node_keeps : (n : RawNode) → KeepsNode n → (text : NodeText) → text_of n ≡ Some text → KeepsText text
-node_keeps n keeps text is =
-    elim (cases_Bool (bytes_eq n.kind (codes "select"))) [
-      | inl same ↦ select_keeps n.test text (rw same at is)
-      | inr other ↦ elim (cases_Bool (bytes_eq n.kind (codes "project"))) [
-        | inl same ↦ project_keeps n keeps n.columns refl text (rw (other, same) at is)
-        | inr neither ↦ let none : None ≡ Some text = rw (other, neither) at is in absurd (cc)
-      ]
-    ]
+node_keeps n keeps text is = said_keeps n keeps text (said n text is)
 
 module _ (raw : RawFlow) (keeps : KeepsRules raw) (built : is_built raw ≡ true) (place : ℕ) (text : NodeText) where
   source_keeps : (s : RawSource) → slice_get raw.sources place ≡ Some s → text_at raw place ≡ Some text → KeepsText text

@@ -16,4 +16,8 @@ pub mod Distinct
 pub mod FlowTrees
 pub mod Ranks
 pub mod Below
+pub mod Said
 pub mod KeptTexts
+pub mod Each
+pub mod Distincts
+pub mod SetColumns

@@ -1,9 +1,6 @@
 -- The inputs that a node names.
-use Rattle.std.proofs.Common.{◌≡◌, ℕ, zero, suc, ◌+◌, ◌-◌, ◌<◌, ◌≤◌, List, [], ◌∷◌, length, map, get_or, codes, bytes_eq, true, false, is_some, is_none, refl, ap, sym, ◌∙◌, ◌⊎◌, inl, inr, Option, Some, None, option_to_list, option_map, option_and_then, slice_get, IfSome, Ok, arith}
-use Rattle.std.specs.List.{list_all}
-use Rattle.std.proofs.lemmas.Bool.{and_parts, cases_Bool}
+use Rattle.std.proofs.Common.{◌≡◌, ℕ, zero, suc, ◌+◌, ◌-◌, ◌<◌, ◌≤◌, List, [], ◌∷◌, length, map, get_or, codes, Bool, true, false, is_some, refl, ap, sym, subst, ◌∙◌, Option, Some, None, option_to_list, option_and_then, slice_get, IfSome, Ok, arith}
 use Rattle.std.proofs.lemmas.List.{append-nil, length-map, length-append, get_or-map, get_or_append_left, get_or-append-add, get_or_past}
-use Rattle.std.proofs.lemmas.Slice.Eq.{bytes_eq-Decides}
 use Rattle.std.proofs.lemmas.Option.{same_Some, slice_get_within, slice_get-get_or}
 use Rattle.workflow_file.specs.declared.raw.RawSource.{RawSource}
 use Rattle.workflow_file.specs.declared.raw.RawNode.{RawNode}
@@ -11,30 +8,13 @@ use Rattle.workflow_file.specs.declared.raw.RawFlow.{RawFlow}
 use Rattle.tuple_schema.specs.Texts.{is_among}
 use Rattle.workflow_file.specs.Nodes.{keys_of}
 use Rattle.workflow_file.specs.Kept.{KeepsNode, KeepsRules}
-use Rattle.flow_types.specs.Built.{is_built_node, is_built}
+use Rattle.flow_types.specs.Built.{is_built}
 use Rattle.flow_types.specs.Graph.{input_names, names_of, needs_of, links_of, inputs_exist}
 use Rattle.flow_types.specs.Trees.{inputs_below, IsWhole}
 use Rattle.flow_types.proofs.Whole.{whole_inputs}
 use Rattle.flow_types.proofs.Links.{inputs_counted}
-use Rattle.flow_types.specs.NodeTexts.{NodeText, source, select, project, text_of, text_at, inputs_needed}
-use Rattle.flow_types.proofs.KeptTexts.{all_pass, built_nodes}
-
--- the kinds that are built have no other input
-no_other_input : (kind : List ℕ) → (kind ≡ codes "select") ⊎ (kind ≡ codes "project")
-    → (is_among (keys_of kind) (codes "left") ≡ false) × (is_among (keys_of kind) (codes "right") ≡ false) × (is_among (keys_of kind) (codes "inputs") ≡ false)
-unfolding keys_of
-no_other_input kind (inl is) = rw is (refl, refl, refl)
-no_other_input kind (inr is) = rw is (refl, refl, refl)
-
-kind_is : (n : RawNode) → is_built_node n ≡ true → (n.kind ≡ codes "select") ⊎ (n.kind ≡ codes "project")
-kind_is n built =
-    elim (cases_Bool (bytes_eq n.kind (codes "select"))) [
-      | inl same ↦ inl ((bytes_eq-Decides n.kind (codes "select")).0 same)
-      | inr other ↦ elim (cases_Bool (bytes_eq n.kind (codes "project"))) [
-        | inl same ↦ inr ((bytes_eq-Decides n.kind (codes "project")).0 same)
-        | inr neither ↦ let none : false ≡ true = rw (other, neither) at (and_parts (is_none n.declare) _ built).1 in absurd (cc)
-      ]
-    ]
+use Rattle.flow_types.specs.NodeTexts.{NodeText, source, text_of, text_at, inputs_needed}
+use Rattle.flow_types.proofs.Said.{Said, by_test, by_columns, by_set, said}
 
 is_absent : {X : Type 0} (o : Option X) → is_some o ≡ false → o ≡ None
 is_absent None absent = refl
@@ -48,23 +28,47 @@ nothing_at [] place = refl
 nothing_at (x ∷ xs) zero = refl
 nothing_at (x ∷ xs) (suc place) = nothing_at xs place
 
-has_input : (kind : List ℕ) → (kind ≡ codes "select") ⊎ (kind ≡ codes "project") → is_among (keys_of kind) (codes "input") ≡ true
-unfolding keys_of
-has_input kind (inl is) = rw is refl
-has_input kind (inr is) = rw is refl
-
 one_of : (o : Option (List ℕ)) → is_some o ≡ true → length (option_to_list o) ≡ 1
 one_of None some = absurd (cc)
 one_of (Some name) some = refl
 
--- so such a node names its input alone
-pub names_one : (n : RawNode) → KeepsNode n → is_built_node n ≡ true → length (input_names n) ≡ 1
-names_one n keeps built =
-    let none = no_other_input n.kind (kind_is n built) in
-    let left : n.left ≡ None = is_absent n.left (keeps.left.there ∙ none.0) in
-    let right : n.right ≡ None = is_absent n.right (keeps.right.there ∙ none.1) in
-    let inputs : n.inputs ≡ None = is_absent n.inputs (keeps.inputs.there ∙ none.2) in
-    rw (left, right, inputs, append-nil) (one_of n.input (keeps.input.there ∙ has_input n.kind (kind_is n built)))
+-- the kind's nodes have the key, or they don't
+abbrev Has : Bool → List ℕ → List ℕ → Type 0
+Has b key kind = is_among (keys_of kind) key ≡ b
+
+-- a kind with one input, which has no other
+abbrev HasOne : List ℕ → Type 0
+HasOne kind = Has true (codes "input") kind × Has false (codes "left") kind × Has false (codes "right") kind × Has false (codes "inputs") kind
+
+has_one : (kind word : List ℕ) → kind ≡ word → HasOne word → HasOne kind
+has_one kind word is has = subst HasOne (sym is) has
+
+selects_one : HasOne (codes "select")
+unfolding keys_of
+selects_one = (refl, refl, refl, refl)
+
+projects_one : HasOne (codes "project")
+unfolding keys_of
+projects_one = (refl, refl, refl, refl)
+
+maps_one : HasOne (codes "map")
+unfolding keys_of
+maps_one = (refl, refl, refl, refl)
+
+module _ (n : RawNode) (keeps : KeepsNode n) where
+  -- so such a node names its input alone
+  names_one : HasOne n.kind → length (input_names n) ≡ 1
+  names_one has =
+      let left : n.left ≡ None = is_absent n.left (keeps.left.there ∙ has.1) in
+      let right : n.right ≡ None = is_absent n.right (keeps.right.there ∙ has.2) in
+      let inputs : n.inputs ≡ None = is_absent n.inputs (keeps.inputs.there ∙ has.3) in
+      rw (left, right, inputs, append-nil) (one_of n.input (keeps.input.there ∙ has.0))
+
+  -- what a node says needs as many inputs as it names
+  names_needed : (text : NodeText) → Said n text → length (input_names n) ≡ inputs_needed text
+  names_needed text (by_test test kind at is) = rw (← is) (names_one (has_one n.kind (codes "select") kind selects_one))
+  names_needed text (by_columns texts kind at is) = rw (← is) (names_one (has_one n.kind (codes "project") kind projects_one))
+  names_needed text (by_set texts kind at is) = rw (← is) (names_one (has_one n.kind (codes "map") kind maps_one))
 
 pub needs_source : (flow : RawFlow) (place : ℕ) → place < length flow.sources → get_or (needs_of flow) place [] ≡ []
 needs_source flow place h =
@@ -98,26 +102,6 @@ count_links flow =
     let all : length (links_of flow) ≡ length (needs_of flow) = rw length-map refl in
     all ∙ (length-needs flow ∙ length-names flow)
 
--- What a node says needs as many inputs as it names.
-
-select_one : (o : Option (List ℕ)) (text : NodeText) → option_map select o ≡ Some text → inputs_needed text ≡ 1
-select_one None text is = absurd (cc)
-select_one (Some test) text is = let same : select test ≡ text = cc in rw (← same) refl
-
-project_one : (o : Option (List (List ℕ))) (text : NodeText) → option_map project o ≡ Some text → inputs_needed text ≡ 1
-project_one None text is = absurd (cc)
-project_one (Some texts) text is = let same : project texts ≡ text = cc in rw (← same) refl
-
-needed_one : (n : RawNode) (text : NodeText) → text_of n ≡ Some text → inputs_needed text ≡ 1
-needed_one n text is =
-    elim (cases_Bool (bytes_eq n.kind (codes "select"))) [
-      | inl same ↦ select_one n.test text (rw same at is)
-      | inr other ↦ elim (cases_Bool (bytes_eq n.kind (codes "project"))) [
-        | inl same ↦ project_one n.columns text (rw (other, same) at is)
-        | inr neither ↦ let none : None ≡ Some text = rw (other, neither) at is in absurd (cc)
-      ]
-    ]
-
 past_end : {X : Type 0} (xs : List X) (k : ℕ) → slice_get xs k ≡ None → length xs ≤ k
 past_end [] k none = omega arith
 past_end (x ∷ xs) zero none = absurd (cc)
@@ -136,10 +120,8 @@ module _ (raw : RawFlow) (keeps : KeepsRules raw) (built : is_built raw ≡ true
       let h = slice_get_within raw.nodes k n at in
       let item : n ≡ get_or raw.nodes k n = same_Some _ _ (sym at ∙ slice_get-get_or raw.nodes k n h) in
       let kept : KeepsNode n = rw item (keeps.nodes k n h) in
-      let nodes_built : list_all is_built_node raw.nodes ≡ true = built_nodes raw built in
-      let fine : is_built_node n ≡ true = rw item (all_pass is_built_node raw.nodes k n nodes_built h) in
       let beyond = past_end raw.sources place past in
-      ap length (needs_node raw place k n (omega arith) h item) ∙ (names_one n kept fine ∙ sym (needed_one n text says))
+      ap length (needs_node raw place k n (omega arith) h item) ∙ names_needed n kept text (said n text says)
 
   behind_sources : (o : Option RawNode) → slice_get raw.sources place ≡ None → slice_get raw.nodes (place - length raw.sources) ≡ o → option_and_then text_of o ≡ Some text
       → length (get_or (needs_of raw) place []) ≡ inputs_needed text

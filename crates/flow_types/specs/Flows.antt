@@ -56,6 +56,7 @@ abbrev pub keeps_order : Kind → Bool
 keeps_order (kind.Source s) = s.seq
 keeps_order (kind.Select test) = true
 keeps_order (kind.Project from) = true
+keeps_order (kind.Map sets) = true
 
 -- the order of the root's rows is fixed: each source keeps its order, until properties of kinds say more
 abbrev pub has_fixed_root : List Node → Bool

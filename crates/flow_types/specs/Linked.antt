@@ -1,6 +1,5 @@
 -- What holds of the nodes of a typed flow: each is over its inputs, whose columns it takes.
-use Rattle.std.specs.Prelude.{◌≡◌, ◌≤◌, ◌<◌, ◌==◌, ℕ, List, [], ◌∷◌, length, map, count_by, slice_get, All, IsTrue, Some, Ok, true, false, ⊤}
-use Rattle.std.specs.List.{AllZip}
+use Rattle.std.specs.Prelude.{◌≡◌, ◌≤◌, ◌==◌, ℕ, List, [], ◌∷◌, length, map, count_by, IsTrue, Some, Ok, true, false, ⊤}
 use Rattle.tuple_schema.specs.declared.schema.Column.{Column}
 use Rattle.tuple_schema.specs.Schemas.{IsSchema, are_distinct}
 use Rattle.list_algebra.specs.Trees.{Tree, Trees, EachNode, roots_of, in_order}
@@ -9,24 +8,14 @@ use Rattle.expr_lang.specs.Trees.{tree_of as expression_tree}
 use Rattle.expr_lang.specs.Kinds.{typing}
 use Rattle.expr_lang.specs.declared.kind.ExprKind.TheVariants as sort
 use Rattle.flow_types.specs.Built.{is_built_source}
+use Rattle.flow_types.specs.Taken.{Takes}
+use Rattle.flow_types.specs.Assigned.{IsAssigned}
 use Rattle.flow_types.specs.declared.node.Source.{Source}
 use Rattle.flow_types.specs.declared.node.Kind.{Kind}
 use Rattle.flow_types.specs.declared.node.Kind.TheVariants as kind
 use Rattle.flow_types.specs.declared.node.Node.{Node}
-use Rattle.flow_types.specs.NodeTexts.{NodeText, source, select, project}
+use Rattle.flow_types.specs.NodeTexts.{NodeText, source, select, project, mapped}
 use Rattle.flow_types.specs.Flows.{TypedFlow, number_of, tree_of, columns_in, columns_of, ids_of}
-
--- the column holds what the input's column at the place holds; the names may differ
-pub record IsTaken (input : List Column) (place : ℕ) (column : Column) : Type 0 where
-  pub of : Column
-  pub at : slice_get input place ≡ Some of
-  pub kind : column.kind ≡ of.kind
-  pub nullable : column.nullable ≡ of.nullable
-
--- these places of the input are taken, each as the column beside it
-pub record Takes (input : List Column) (from : List ℕ) (columns : List Column) : Type 0 where
-  pub within : All (λ place. place < length input) from
-  pub each : AllZip (IsTaken input) from columns
 
 -- a source that is built at this stage: a CSV file, its rows in the truth's order
 pub record IsBuiltSource (s : Source) : Type 0 where
@@ -38,12 +27,14 @@ abbrev pub KeepsText : NodeText → Type 0
 KeepsText (source s) = KeepsSource s × IsTrue (is_built_source s)
 KeepsText (select text) = ⊤
 KeepsText (project texts) = (1 ≤ length texts) × (length texts ≤ 64)
+KeepsText (mapped texts) = ⊤
 
 -- a kind over inputs with these columns gives these columns
 abbrev pub IsOver : Kind → List (List Column) → List Column → Type 0
 IsOver (kind.Source s) inputs columns = (inputs ≡ []) × IsBuiltSource s
 IsOver (kind.Select test) inputs columns = (inputs ≡ columns ∷ []) × (typing columns (expression_tree test) ≡ Ok sort.Truth)
 IsOver (kind.Project from) inputs columns = (length inputs ≡ 1) × Takes (columns_in inputs 0) from columns
+IsOver (kind.Map sets) inputs columns = (length inputs ≡ 1) × IsAssigned (columns_in inputs 0) sets columns
 
 -- a node over these inputs, whose columns are a schema
 pub record IsLinked (n : Node) (below : List Node) : Type 0 where

@@ -17,7 +17,9 @@ use Rattle.flow_types.specs.declared.node.Kind.TheVariants as kind
 use Rattle.flow_types.specs.Names.{name_at, names_in, no_double, no_unknown, cols_if, place_of}
 use Rattle.flow_types.specs.Flows.{TypedFlow, columns_in, columns_of, ids_of}
 use Rattle.flow_types.specs.Expressions.{test_of}
-use Rattle.flow_types.specs.NodeTexts.{NodeText, source, select, project, text_at}
+use Rattle.flow_types.specs.Each.{each_made}
+use Rattle.flow_types.specs.Mapped.{setting_of, columns_set, set_columns, assign_in, only_few}
+use Rattle.flow_types.specs.NodeTexts.{NodeText, source, select, project, mapped, text_at}
 use Rattle.flow_types.specs.Graph.{names_of, id_of, fault_at, graph_of}
 
 -- the name that a column gets from `NAME` or `NAME as NAME`: what follows the second space, or the name itself
@@ -93,11 +95,20 @@ typed_project texts columns = do
   taken ← projection columns texts
   Ok (kind.Project taken.0, taken.1)
 
+-- those of a map of these columns: no name is set twice
+abbrev pub typed_map : List (List ℕ) → List Column → Result (Kind × List Column) SchemaCause
+typed_map texts columns = do
+  settings ← each_made (setting_of columns) texts
+  _ ← no_double (names_in (columns_set settings))
+  output ← only_few (set_columns columns settings)
+  Ok (kind.Map (filter_map (assign_in (names_in output)) settings), output)
+
 -- the kind and the columns of a node that says this, over inputs with these columns
 abbrev pub typed_text : NodeText → List (List Column) → Result (Kind × List Column) SchemaCause
 typed_text (source s) inputs = typed_source s
 typed_text (select text) inputs = typed_select text (columns_in inputs 0)
 typed_text (project texts) inputs = typed_project texts (columns_in inputs 0)
+typed_text (mapped texts) inputs = typed_map texts (columns_in inputs 0)
 
 -- the same of what stands at a place, if something does
 abbrev pub typed_at : Option NodeText → List (List Column) → Result (Kind × List Column) SchemaCause

@@ -7,7 +7,7 @@ use tuple_schema::Text;
 use workflow_file::{RawFlow, RawNode, RawSource};
 
 /// Whether the flow is one that can be typed at this stage: a table without a key, sources of promise `seq` in CSV
-/// files, and selections and projections, which declare nothing.
+/// files, and selections, projections and maps, which declare nothing.
 #[tactic(auto, unfolding(crate::specs::Built::is_built))]
 pub fn is_built(raw: &RawFlow) -> bool
     ensures { result ≡ is_built raw.now }
@@ -54,8 +54,10 @@ fn is_built_node(node: &RawNode) -> bool
 fn has_text(node: &RawNode) -> bool
     ensures { result ≡ is_some (text_of node.now) }
 {
-    if node.kind.as_str() == "select" {
-        return node.test.is_some();
+    match node.kind.as_str() {
+        "select" => node.test.is_some(),
+        "project" => node.columns.is_some(),
+        "map" => node.set.is_some(),
+        _ => false,
     }
-    node.kind.as_str() == "project" && node.columns.is_some()
 }

@@ -1,12 +1,12 @@
 // Expressions in the texts of nodes.
 ghost use Rattle.std.specs.Prelude.{◌≡◌, Ok, IfOk, OnOk};
 ghost use Rattle.tuple_schema.specs.Words.{Gives};
-ghost use Rattle.expr_lang.specs.Words.{tree_of, typing};
+ghost use Rattle.expr_lang.specs.Words.{tree_of, typing, LeavesFit};
 ghost use Rattle.flow_types.specs.Words.{cause_of, expression_of, kind_over, only_truth, test_of};
 
 use crate::fault::SchemaCause;
 use expr_grammar::{Expr, parse};
-use expr_lang::{ExprKind, TypeFault, check};
+use expr_lang::{ExprKind, TypeFault, check, value_laws};
 use std::alloc::Global;
 use tuple_schema::{Schema, Stop};
 
@@ -21,10 +21,12 @@ pub fn test_of(alloc: Global, input: &Schema, text: &str) -> Result<Expr, Stop<S
     Ok(test)
 }
 
-// The expression of a text.
-fn expression_of(alloc: Global, text: &str) -> Result<Expr, Stop<SchemaCause>>
-    ensures { Gives result (expression_of text.now) }
+/// The expression of a text.
+pub fn expression_of(alloc: Global, text: &str) -> Result<Expr, Stop<SchemaCause>>
+    ensures reads { Gives result (expression_of text.now) }
+    ensures leaves { IfOk result (λ x. LeavesFit (tree_of x)) }
 {
+    value_laws();
     match parse(alloc, text) {
         Ok(expression) => Ok(expression),
         Err(Stop::Memory) => Err(Stop::Memory),
@@ -35,8 +37,8 @@ fn expression_of(alloc: Global, text: &str) -> Result<Expr, Stop<SchemaCause>>
     }
 }
 
-// What an expression gives over the input's columns.
-fn kind_over(expression: &Expr, input: &Schema) -> Result<ExprKind, Stop<SchemaCause>>
+/// What an expression gives over the input's columns.
+pub fn kind_over(expression: &Expr, input: &Schema) -> Result<ExprKind, Stop<SchemaCause>>
     ensures kind { Gives result (kind_over input.now expression.now) }
     ensures typed { IfOk result (λ kind. typing input.now (tree_of expression.now) ≡ Ok kind) }
 {

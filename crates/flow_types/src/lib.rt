@@ -4,8 +4,8 @@
 //! and type them, on `list_algebra`, which has the trees, and on `indexmap`, which numbers the names; `kind_laws`
 //! gives the nodes their meaning. Read `specs/Graph.antt` first, how nodes are named and reached, then
 //! `specs/Typed.antt`, their columns and the order of faults, `specs/Flows.antt`, a flow and its tree, and
-//! `specs/Linked.antt`, what holds of each flow. Built at this stage are sequences in CSV files, selections and
-//! projections: `is_built`.
+//! `specs/Linked.antt`, what holds of each flow. Built at this stage are sequences in CSV files, selections,
+//! projections and maps: `is_built`.
 //!
 //! Promised: `type_flow` answers the typed flow or its first fault; every `Flow` is the nodes of one tree, inputs
 //! first, no two of one number or one name, each over the columns of its inputs, and ranks above them; `tree_laws`: the
@@ -20,10 +20,12 @@ mod fault;
 mod flow;
 mod graph;
 mod laws;
+mod mapped;
 mod named;
 mod names;
 mod node;
 mod node_text;
+mod typed;
 mod typing;
 
 pub use built::is_built;

@@ -48,7 +48,8 @@ fn first_place(names: &[&Text], name: &Text) -> Option<usize>
 }
 
 #[tactic(auto, using(crate::proofs::Lists::list_any_mapped))]
-fn is_among(names: &[&Text], name: &Text) -> bool
+/// Whether the name is one of these.
+pub fn is_among(names: &[&Text], name: &Text) -> bool
     ensures { result ≡ is_among (map (λ n. n.now) names.now) name.now }
 {
     is_any(names, name)

@@ -98,6 +98,8 @@ pub enum Kind {
     Select { test: Expr },
     /// Takes these columns of its input, in this order.
     Project { from: Cols },
+    /// Gives each row with values set, in columns of its own or new ones behind them.
+    Map { sets: Assigns },
 }
 
 /// A node of a flow, with the columns of what it gives.

@@ -5,12 +5,13 @@ ghost use Rattle.flow_types.specs.Words.{is_built, name_at, names_of, text_of, t
 use tuple_schema::Text;
 use workflow_file::{RawFlow, RawNode, RawSource};
 
-/// A source, a selection by the text of its test, or a projection by the texts of its columns.
+/// A source, a selection by the text of its test, a projection by the texts of its columns, or a map by its texts.
 #[derive(Clone, Copy)]
 pub enum NodeText<'r> {
     Source(&'r RawSource),
     Select(&'r Text),
     Project(&'r [Text]),
+    Map(&'r [Text]),
 }
 
 /// What the node at a place says, sources first.
@@ -38,6 +39,7 @@ fn text_of(node: &RawNode) -> Option<NodeText<'_>>
     match node.kind.as_str() {
         "select" => Some(NodeText::Select(node.test.as_ref()?)),
         "project" => Some(NodeText::Project(node.columns.as_ref()?.items())),
+        "map" => Some(NodeText::Map(node.set.as_ref()?.items())),
         _ => None,
     }
 }

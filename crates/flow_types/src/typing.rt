@@ -14,9 +14,11 @@ use crate::column_texts::stated_columns;
 use crate::expressions::test_of;
 use crate::fault::{NodeId, SchemaCause, SchemaFault};
 use crate::graph::{Link, fault_at, inputs_below};
+use crate::mapped::type_map;
 use crate::names::{cols_if, names_in, no_double, place_of};
 use crate::node::{Cols, Inputs, Kind, Node, Source};
 use crate::node_text::{NodeText, name_at, text_at};
+use crate::typed::Typed;
 use std::alloc::Global;
 use tuple_schema::{Column, Memory, Names, Schema, Stop, Text, rest_of};
 use workflow_file::{RawFlow, RawSource};
@@ -134,13 +136,6 @@ fn ids_of(alloc: Global, nodes: &[&Node]) -> Result<Inputs, Memory>
     Ok(Inputs::of(ids))
 }
 
-// The kind of a node, and the columns that it gives.
-#[derive(Drop)]
-struct Typed {
-    kind: Kind,
-    schema: Schema,
-}
-
 // What a node is that says this, over these inputs.
 fn type_text(
     alloc: Global,
@@ -157,6 +152,7 @@ fn type_text(
         NodeText::Source(source) => type_source(alloc, source),
         NodeText::Select(text) => type_select(alloc, text, &inputs[0].schema),
         NodeText::Project(texts) => type_project(alloc, texts, &inputs[0].schema),
+        NodeText::Map(texts) => type_map(alloc, texts, &inputs[0].schema),
     }
 }
 

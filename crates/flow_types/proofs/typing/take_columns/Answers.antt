@@ -4,7 +4,7 @@ use Rattle.std.proofs.lemmas.List.Elements.{All-push}
 use Rattle.tuple_schema.specs.Texts.{head_of}
 use Rattle.flow_types.specs.Names.{names_in, place_of}
 use Rattle.flow_types.specs.Typed.{new_name, renamed, output_column}
-use Rattle.flow_types.specs.Linked.{IsTaken}
+use Rattle.flow_types.specs.Taken.{IsTaken}
 use Rattle.flow_types.proofs.Lookups.{found_more, known_more, filter_more}
 use Rattle.flow_types.proofs.Columns.{output_is, all_zip_push, is_taken}
 use Rattle.flow_types.proofs.typing.take_columns.Goals as goal

@@ -2,7 +2,7 @@ use Rattle.std.proofs.Common.{◌≡◌, map, take, drop, filter_map, length}
 use Rattle.tuple_schema.specs.Texts.{head_of}
 use Rattle.flow_types.specs.Names.{names_in, unknown, place_of}
 use Rattle.flow_types.specs.Typed.{output_columns}
-use Rattle.flow_types.specs.Linked.{Takes}
+use Rattle.flow_types.specs.Taken.{Takes}
 use Rattle.flow_types.proofs.typing.take_columns.Given as goal
 
 abbrev pub invariant-loop-text : goal.invariant-loop-text

@@ -1,0 +1,39 @@
+-- What a node says, by its kind.
+use Rattle.std.proofs.Common.{◌≡◌, ℕ, List, codes, bytes_eq, true, refl, inl, inr, Option, Some, None, option_map}
+use Rattle.std.proofs.lemmas.Bool.{cases_Bool}
+use Rattle.std.proofs.lemmas.Slice.Eq.{bytes_eq-Decides}
+use Rattle.workflow_file.specs.declared.raw.RawNode.{RawNode}
+use Rattle.flow_types.specs.NodeTexts.{NodeText, select, project, mapped, text_of}
+
+-- a node of a kind says the text or the texts of the kind's key
+pub data Said (n : RawNode) (text : NodeText) : Type 0 where
+  by_test : (test : List ℕ) → n.kind ≡ codes "select" → n.test ≡ Some test → select test ≡ text → Said n text
+  by_columns : (texts : List (List ℕ)) → n.kind ≡ codes "project" → n.columns ≡ Some texts → project texts ≡ text → Said n text
+  by_set : (texts : List (List ℕ)) → n.kind ≡ codes "map" → n.set ≡ Some texts → mapped texts ≡ text → Said n text
+
+made_of : {X : Type 0} (make : X → NodeText) (o : Option X) (text : NodeText) → option_map make o ≡ Some text → (x : X) × (o ≡ Some x) × (make x ≡ text)
+made_of make None text is = absurd (cc)
+made_of make (Some x) text is = (x, refl, cc)
+
+module _ (n : RawNode) (text : NodeText) where
+  is_kind : (word : List ℕ) → bytes_eq n.kind word ≡ true → n.kind ≡ word
+  is_kind word same = (bytes_eq-Decides n.kind word).0 same
+
+  pub said : text_of n ≡ Some text → Said n text
+  said is =
+      elim (cases_Bool (bytes_eq n.kind (codes "select"))) [
+        | inl same ↦
+            let made = made_of select n.test text (rw same at is) in
+            by_test made.0 (is_kind (codes "select") same) made.1 made.2
+        | inr no_select ↦ elim (cases_Bool (bytes_eq n.kind (codes "project"))) [
+          | inl same ↦
+              let made = made_of project n.columns text (rw (no_select, same) at is) in
+              by_columns made.0 (is_kind (codes "project") same) made.1 made.2
+          | inr no_project ↦ elim (cases_Bool (bytes_eq n.kind (codes "map"))) [
+            | inl same ↦
+                let made = made_of mapped n.set text (rw (no_select, no_project, same) at is) in
+                by_set made.0 (is_kind (codes "map") same) made.1 made.2
+            | inr no_map ↦ let none : None ≡ Some text = rw (no_select, no_project, no_map) at is in absurd (cc)
+          ]
+        ]
+      ]
