@@ -1,7 +1,5 @@
 -- The new tuple that a map makes of a row: it fits its columns.
 use Rattle.std.proofs.Common.{◌≡◌, ℕ, ◌+◌, ◌<◌, ◌≤◌, List, [], ◌∷◌, ◌++◌, length, map, take, get_or, slice_get, All, Bool, true, Option, Some, None, inl, inr, ap, sym, subst, ◌∙◌, arith}
-use Rattle.std.specs.Prelude.{FitsSigned, IsUtf8, ⊤}
-use Rattle.std.specs.Int.{w64}
 use Rattle.std.proofs.lemmas.List.{map_more}
 use Rattle.std.proofs.lemmas.List.Elements.{All-weaker}
 use Rattle.std.proofs.lemmas.Option.{slice_get_within, slice_get_cases, get_or_from_slice_get}
@@ -10,6 +8,7 @@ use Rattle.tuple_schema.specs.declared.value.Value.TheVariants as value
 use Rattle.tuple_schema.specs.declared.schema.Column.{Column}
 use Rattle.tuple_schema.specs.declared.schema.ColumnKind.{ColumnKind}
 use Rattle.tuple_schema.specs.Schemas.{HasScale, fits, is_of}
+use Rattle.row_codec.specs.Decoding.{IsEncodable}
 use Rattle.row_batch.specs.Packing.{FitsNext}
 use Rattle.list_algebra.specs.Joins.{below}
 use Rattle.expr_grammar.specs.declared.expr.Expr.{Expr}
@@ -18,21 +17,14 @@ use Rattle.expr_lang.specs.Values.{value_of}
 use Rattle.expr_lang.specs.Fits.{IsWithin, IsTyped, ValueFits}
 use Rattle.expr_lang.specs.declared.kind.ExprKind.TheVariants as sort
 use Rattle.flow_types.specs.declared.node.Assign.{Assign}
-use Rattle.flow_types.specs.Linked.{IsTaken}
+use Rattle.flow_types.specs.Taken.{IsTaken}
 use Rattle.flow_types.specs.Assigned.{HoldsCell, IsAssigned, set_at}
 use Rattle.kind_laws.specs.Expressions.{assigned, cell, cells, mapped}
 use Rattle.kind_laws.proofs.Rows.{fits-length, value_at}
 use Rattle.kind_laws.proofs.Below.{length-map_below, at_below, same_below, below_fits}
 
--- a value that has a form in bytes, as `row_codec` says it, which is no library of this crate
-abbrev HasForm : Value → Type 0
-HasForm value.Null = ⊤
-HasForm (value.Int n) = FitsSigned w64 n
-HasForm (value.Dec n) = FitsSigned w64 n
-HasForm (value.Text t) = IsUtf8 t × (length t ≤ 4096)
-
--- it is within the limits
-form_within : (v : Value) → HasForm v → IsWithin v
+-- a value that has a form in bytes is within the limits
+form_within : (v : Value) → IsEncodable v → IsWithin v
 form_within value.Null form = form
 form_within (value.Int n) form = form
 form_within (value.Dec n) form = form
@@ -75,7 +67,7 @@ module _ (input columns : List Column) (sets : List Assign) (row : List Value) (
       sym (at_below (set_at sets) (length columns) place None small) ∙ get_or_from_slice_get _ place None None there in
       own_within place small none
 
-  module _ (scaled : All (λ c. HasScale c.kind) input) (forms : All HasForm row)
+  module _ (scaled : All (λ c. HasScale c.kind) input) (forms : All IsEncodable row)
       (laws : (cs : List Column) (vs : List Value) (x : Tree) (kind : ColumnKind) (nullable : Bool) → IsTyped cs vs x (sort.Value kind nullable)
       → ValueFits kind nullable (value_of cs vs x))
     where
@@ -85,7 +77,7 @@ module _ (input columns : List Column) (sets : List Assign) (row : List Value) (
           let typed : IsTyped input row (tree_of x) (sort.Value c.kind c.nullable) = record {
             scaled = scaled;
             fits = fit;
-            within = All-weaker HasForm IsWithin form_within row forms;
+            within = All-weaker IsEncodable IsWithin form_within row forms;
             leaves = holds.0;
             typed = holds.1;
           } in

@@ -8,7 +8,7 @@ use Rattle.tuple_schema.specs.declared.value.Value.{Value}
 use Rattle.tuple_schema.specs.declared.schema.Column.{Column}
 use Rattle.tuple_schema.specs.Schemas.{Fits, fits, is_of}
 use Rattle.tuple_schema.specs.Tuples.{part}
-use Rattle.flow_types.specs.Linked.{IsTaken, Takes}
+use Rattle.flow_types.specs.Taken.{IsTaken, Takes}
 
 and-left : (a b : Bool) → (a && b) ≡ true → a ≡ true
 and-left true b h = refl
