@@ -9,8 +9,12 @@
 //! Not promised: that memory is found.
 #![tactic(auto)]
 
+mod adding;
 mod evaluation;
+mod joining;
 mod kinds;
+mod matching;
+mod sorted;
 mod transform;
 
 pub use evaluation::whole;
