@@ -36,7 +36,7 @@ fn given_rows(alloc: Global, rows: &Batch, cols: &[usize]) -> Result<Vec<usize>,
 }
 
 // Whether none of the values in these columns is Null.
-pub(crate) fn is_given(row: &RowView<'_>, cols: &[usize]) -> bool
+fn is_given(row: &RowView<'_>, cols: &[usize]) -> bool
     requires { All (λ c. c < length row.now) cols.now }
     ensures { result ≡ list_all is_given (part row.now cols.now) }
 {
