@@ -3,3 +3,9 @@ pub mod Inputs
 pub mod Stacks
 pub mod Below
 pub mod Cells
+mod Runs
+mod Numbered
+mod Keyed
+mod Agreeing
+mod Added
+mod Joined

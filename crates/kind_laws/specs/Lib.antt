@@ -4,4 +4,5 @@ pub mod Wholes
 pub mod Laws
 pub mod Promises
 pub mod Runs
+pub mod Indexes
 pub mod Words

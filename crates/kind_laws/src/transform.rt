@@ -1,5 +1,4 @@
 // The nodes of a flow as transforms of whole lists.
-use crate::joining::{join, lookup};
 use crate::projecting::project;
 use crate::mapping::map;
 use crate::selecting::select;
@@ -57,12 +56,6 @@ impl Transform for Law<'_> {
             Kind::Select { test } => select(alloc, test, &lists[0]),
             Kind::Project { from } => project(alloc, from.places(), columns, &lists[0]),
             Kind::Map { sets } => map(alloc, sets.items(), columns, &lists[0]),
-            Kind::Join { left, right } => {
-                join(alloc, left.places(), right.places(), columns, &lists[0], &lists[1])
-            }
-            Kind::Lookup { left, right } => {
-                lookup(alloc, left.places(), right.places(), columns, &lists[0], &lists[1])
-            }
         }
     }
 }
