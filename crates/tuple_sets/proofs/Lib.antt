@@ -1,0 +1,5 @@
+pub mod OrderLemmas
+pub mod PartLemmas
+pub mod SameLemmas
+pub mod RunLemmas
+pub mod BagLemmas
