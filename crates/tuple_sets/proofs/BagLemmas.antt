@@ -1,16 +1,16 @@
 -- How often a tuple is in a bag, by its entries.
-use Rattle.std.proofs.Common.{◌≡◌, ℕ, zero, suc, ◌+◌, ◌<◌, ◌≤◌, List, [], ◌∷◌, ◌++◌, length, get_or, set, true, false, cond, refl, ap, sym, ◌∙◌, ⊎_elim, arith}
-use Rattle.std.specs.Prelude.{nat_lt, IsPermutation, Result, Ok, Err, OnOk, OnErr}
+use Rattle.std.proofs.Common.{◌≡◌, ℕ, zero, suc, ◌+◌, ◌<◌, ◌≤◌, List, [], ◌∷◌, ◌++◌, length, get_or, set, true, false, cond, refl, ap, sym, subst, ◌∙◌, ⊎_elim, arith}
+use Rattle.std.specs.Prelude.{IsPermutation, Result, Ok, Err, OnOk, OnErr}
 use Rattle.std.specs.List.{count_by, sum_by}
 use Rattle.std.proofs.Math.ListN.{replicate}
-use Rattle.std.proofs.lemmas.Bool.{cases_Bool, lt-ltb}
+use Rattle.std.proofs.lemmas.Bool.{cases_Bool}
 use Rattle.std.proofs.lemmas.List.Sums.{sum_by-cons, sum_by-append, sum_by_push, get_or-le-sum_by}
 use Rattle.std.proofs.lemmas.List.Folds.{sum_by-replicate}
 use Rattle.std.proofs.lemmas.List.Sorted.{sum_by-IsPermutation}
 use Rattle.tuple_schema.specs.declared.value.Value.{Value}
 use Rattle.tuple_sets.specs.declared.entry.Entry.{Entry}
-use Rattle.tuple_sets.specs.Bags.{same, has, count_of, SameBag, SameSet}
-use Rattle.tuple_sets.specs.Runs.{is_for, IsAt, Lacks, IsUnique, with_count, tuples_of}
+use Rattle.tuple_sets.specs.Bags.{same, count_of, SameBag}
+use Rattle.tuple_sets.specs.Runs.{is_for, IsAt, Lacks, IsUnique, count_at, with_count, tuples_of}
 use Rattle.tuple_sets.proofs.SameLemmas.{same-equal}
 
 -- what an entry counts of the tuple
@@ -66,38 +66,41 @@ none-weighs (e ∷ es) tuple none =
 pub lacks-count : (es : List Entry) (tuple : List Value) → Lacks es tuple → count_of (tuples_of es) tuple ≡ 0
 lacks-count es tuple none = count-tuples_of es tuple ∙ none-weighs es tuple (lacks-none es tuple none)
 
-some-number : (es : List Entry) (tuple : List Value) (i : ℕ) (d : Entry) → i < length es → is_for tuple (get_or es i d) ≡ true → 1 ≤ count_by (is_for tuple) es
-some-number es tuple i d lt at =
-    let here : one tuple (get_or es i d) ≡ 1 = rw at refl in
-    let all = get_or-le-sum_by (one tuple) es i d lt in
+some-number : (es : List Entry) (tuple : List Value) (i : ℕ) (d : Entry) → IsAt es tuple i → 1 ≤ count_by (is_for tuple) es
+some-number es tuple i d here =
+    let first : one tuple (get_or es i d) ≡ 1 = rw (here.1 d) refl in
+    let all = get_or-le-sum_by (one tuple) es i d here.0 in
     omega arith
 
-found-weight : (es : List Entry) (tuple : List Value) (i : ℕ) (d : Entry) → i < length es → is_for tuple (get_or es i d) ≡ true
-    → count_by (is_for tuple) es ≤ 1 → sum_by (weight tuple) es ≡ (get_or es i d).count
-found-weight [] tuple i d lt at unique = absurd (omega arith)
-found-weight (e ∷ es) tuple zero d lt at unique =
+found-weight : (es : List Entry) (tuple : List Value) (i : ℕ) → IsAt es tuple i → count_by (is_for tuple) es ≤ 1
+    → sum_by (weight tuple) es ≡ count_at es i
+found-weight [] tuple i here unique = absurd (omega (arith, here.0))
+found-weight (e ∷ es) tuple zero here unique =
+    let yes : is_for tuple e ≡ true = here.1 e in
     let parts = sum_by-cons (one tuple) e es in
     let all = sum_by-cons (weight tuple) e es in
-    let here : one tuple e ≡ 1 = rw at refl in
-    let more : weight tuple e ≡ e.count = rw at refl in
+    let first : one tuple e ≡ 1 = rw yes refl in
+    let more : weight tuple e ≡ e.count = rw yes refl in
     let rest = none-weighs es tuple (omega arith) in
     omega arith
-found-weight (e ∷ es) tuple (suc i) d lt at unique =
+found-weight (e ∷ es) tuple (suc i) here unique =
+    let within : suc i < length (e ∷ es) = here.0 in
+    let later : IsAt es tuple i = (omega arith, here.1) in
     let parts = sum_by-cons (one tuple) e es in
     let all = sum_by-cons (weight tuple) e es in
-    let later = some-number es tuple i d (omega arith) at in
+    let some = some-number es tuple i e later in
     ⊎_elim
-    (λ yes. let here : one tuple e ≡ 1 = rw yes refl in absurd (omega arith))
+    (λ yes. let first : one tuple e ≡ 1 = rw yes refl in absurd (omega arith))
     (λ no.
+    let none : one tuple e ≡ 0 = rw no refl in
     let less : weight tuple e ≡ 0 = rw no refl in
-    let rest = found-weight es tuple i d (omega arith) at (omega arith) in
+    let rest = found-weight es tuple i later (omega arith) in
     omega arith)
     (cases_Bool (is_for tuple e))
 
-pub found-count : (es : List Entry) (tuple : List Value) (i : ℕ) (d : Entry) → IsAt es tuple i
-    → IsUnique es → count_of (tuples_of es) tuple ≡ (get_or es i d).count
-found-count es tuple i d here unique =
-    count-tuples_of es tuple ∙ found-weight es tuple i d here.0 (here.1 d) (unique tuple)
+pub found-count : (es : List Entry) (tuple : List Value) (i : ℕ) → IsAt es tuple i → IsUnique es
+    → count_of (tuples_of es) tuple ≡ count_at es i
+found-count es tuple i here unique = count-tuples_of es tuple ∙ found-weight es tuple i here (unique tuple)
 
 -- ---- another count
 
@@ -149,57 +152,51 @@ weight-with_count (e ∷ es) (suc i) n d tuple lt =
     let c = weight-with_count es i n d tuple (omega arith) in
     omega arith
 
--- one more of a row that is there
-pub counted_up : (es : List Entry) (row : List Value) (i m : ℕ) (d : Entry) → i < length es → is_for row (get_or es i d) ≡ true
-    → m ≡ (get_or es i d).count → SameBag (tuples_of (with_count es i (m + 1))) (row ∷ tuples_of es)
-counted_up es row i m d lt at now tuple =
-    let new = count-tuples_of (with_count es i (m + 1)) tuple in
-    let old = count-tuples_of es tuple in
-    let more = count-cons row (tuples_of es) tuple in
-    let change = weight-with_count es i (m + 1) d tuple lt in
+same_count : (es : List Entry) (i : ℕ) → with_count es i (count_at es i) ≡ es
+same_count [] i = refl
+same_count (e ∷ es) zero = refl
+same_count (e ∷ es) (suc i) = ap (λ fs. e ∷ fs) (same_count es i)
+
+-- an entry that counts one more has its row once more
+counted : (es : List Entry) (row : List Value) (i n : ℕ) → IsAt es row i
+    → SameBag (tuples_of (with_count es i (n + 1))) (row ∷ tuples_of (with_count es i n))
+counted [] row i n here tuple = absurd (omega (arith, here.0))
+counted (d ∷ ds) row i n here tuple =
+    let es = d ∷ ds in
     let e = get_or es i d in
-    let is : row ≡ e.tuple = same-equal row e.tuple at in
+    let new = count-tuples_of (with_count es i (n + 1)) tuple in
+    let old = count-tuples_of (with_count es i n) tuple in
+    let more = count-cons row (tuples_of (with_count es i n)) tuple in
+    let up = weight-with_count es i (n + 1) d tuple here.0 in
+    let down = weight-with_count es i n d tuple here.0 in
+    let is : row ≡ e.tuple = same-equal row e.tuple (here.1 d) in
     let test : same tuple row ≡ is_for tuple e = ap (same tuple) is in
     ⊎_elim
     (λ yes.
     let tested : same tuple row ≡ true = test ∙ yes in
     let one_more : cond {A = ℕ} (same tuple row) 1 0 ≡ 1 = rw tested refl in
-    let before : weight tuple e ≡ e.count = rw yes refl in
-    let after : cond {A = ℕ} (is_for tuple e) (m + 1) 0 ≡ m + 1 = rw yes refl in
+    let before : cond {A = ℕ} (is_for tuple e) n 0 ≡ n = rw yes refl in
+    let after : cond {A = ℕ} (is_for tuple e) (n + 1) 0 ≡ n + 1 = rw yes refl in
     omega arith)
     (λ no.
     let tested : same tuple row ≡ false = test ∙ no in
     let none_more : cond {A = ℕ} (same tuple row) 1 0 ≡ 0 = rw tested refl in
-    let before : weight tuple e ≡ 0 = rw no refl in
-    let after : cond {A = ℕ} (is_for tuple e) (m + 1) 0 ≡ 0 = rw no refl in
+    let before : cond {A = ℕ} (is_for tuple e) n 0 ≡ 0 = rw no refl in
+    let after : cond {A = ℕ} (is_for tuple e) (n + 1) 0 ≡ 0 = rw no refl in
     omega arith)
     (cases_Bool (is_for tuple e))
 
--- one less
-pub counted_down : (es : List Entry) (row : List Value) (i m : ℕ) (d : Entry) → i < length es → is_for row (get_or es i d) ≡ true
-    → m + 1 ≡ (get_or es i d).count → SameBag (tuples_of es) (row ∷ tuples_of (with_count es i m))
-counted_down es row i m d lt at now tuple =
-    let new = count-tuples_of (with_count es i m) tuple in
-    let old = count-tuples_of es tuple in
-    let more = count-cons row (tuples_of (with_count es i m)) tuple in
-    let change = weight-with_count es i m d tuple lt in
-    let e = get_or es i d in
-    let is : row ≡ e.tuple = same-equal row e.tuple at in
-    let test : same tuple row ≡ is_for tuple e = ap (same tuple) is in
-    ⊎_elim
-    (λ yes.
-    let tested : same tuple row ≡ true = test ∙ yes in
-    let one_more : cond {A = ℕ} (same tuple row) 1 0 ≡ 1 = rw tested refl in
-    let before : weight tuple e ≡ e.count = rw yes refl in
-    let after : cond {A = ℕ} (is_for tuple e) m 0 ≡ m = rw yes refl in
-    omega arith)
-    (λ no.
-    let tested : same tuple row ≡ false = test ∙ no in
-    let none_more : cond {A = ℕ} (same tuple row) 1 0 ≡ 0 = rw tested refl in
-    let before : weight tuple e ≡ 0 = rw no refl in
-    let after : cond {A = ℕ} (is_for tuple e) m 0 ≡ 0 = rw no refl in
-    omega arith)
-    (cases_Bool (is_for tuple e))
+pub counted_up : (es : List Entry) (row : List Value) (i : ℕ) → IsAt es row i
+    → SameBag (tuples_of (with_count es i (count_at es i + 1))) (row ∷ tuples_of es)
+counted_up es row i here =
+    let n = count_at es i in
+    subst (λ fs. SameBag (tuples_of (with_count es i (n + 1))) (row ∷ tuples_of fs)) (same_count es i) (counted es row i n here)
+
+pub counted_down : (es : List Entry) (row : List Value) (i n : ℕ) → IsAt es row i → n + 1 ≡ count_at es i
+    → SameBag (tuples_of es) (row ∷ tuples_of (with_count es i n))
+counted_down es row i n here is =
+    let whole : with_count es i (n + 1) ≡ es = ap (with_count es i) is ∙ same_count es i in
+    subst (λ fs. SameBag (tuples_of fs) (row ∷ tuples_of (with_count es i n))) whole (counted es row i n here)
 
 -- ---- a row that wasn't there
 
@@ -227,60 +224,6 @@ unique-pushed es fs e none unique moved tuple =
     omega arith)
     (λ no. let here : one tuple e ≡ 0 = rw no refl in omega arith)
     (cases_Bool (is_for tuple e))
-
--- ---- sets
-
-pub has-count : (bag : List (List Value)) (tuple : List Value) → has bag tuple ≡ nat_lt 0 (count_of bag tuple)
-has-count [] tuple = refl
-has-count (t ∷ bag) tuple =
-    let parts = count-cons t bag tuple in
-    ⊎_elim
-    (λ yes.
-    let here : has (t ∷ bag) tuple ≡ true = rw yes refl in
-    let one_more : cond {A = ℕ} (same tuple t) 1 0 ≡ 1 = rw yes refl in
-    here ∙ sym (lt-ltb 0 (count_of (t ∷ bag) tuple) (omega arith)))
-    (λ no.
-    let here : has (t ∷ bag) tuple ≡ has bag tuple = rw no refl in
-    let none_more : cond {A = ℕ} (same tuple t) 1 0 ≡ 0 = rw no refl in
-    let alike : count_of (t ∷ bag) tuple ≡ count_of bag tuple = omega arith in
-    here ∙ has-count bag tuple ∙ ap (nat_lt 0) (sym alike))
-    (cases_Bool (same tuple t))
-
--- bags that are the same have the same tuples
-pub has-same : (xs ys : List (List Value)) → SameBag xs ys → SameSet xs ys
-has-same xs ys alike tuple = has-count xs tuple ∙ ap (nat_lt 0) (alike tuple) ∙ sym (has-count ys tuple)
-
--- a key that is there adds nothing
-pub has-again : (keys : List (List Value)) (key : List Value) → 0 < count_of keys key → SameSet keys (key ∷ keys)
-has-again keys key there tuple =
-    ⊎_elim
-    (λ yes.
-    let is : tuple ≡ key = same-equal tuple key yes in
-    let found : has keys tuple ≡ true = has-count keys tuple ∙ rw is (lt-ltb 0 (count_of keys key) there) in
-    rw (yes, found) refl)
-    (λ no. rw no refl)
-    (cases_Bool (same tuple key))
-
--- ---- a bag by its view
-
-module _ (es : List Entry) (bag : List (List Value)) (view : tuples_of es ≡ bag) (row : List Value) where
-  pub view-lacks : Lacks es row → count_of bag row ≡ 0
-  view-lacks none = ap (λ b. count_of b row) (sym view) ∙ lacks-count es row none
-
-  pub view-found : (i : ℕ) (d : Entry) → IsAt es row i → IsUnique es
-      → count_of bag row ≡ (get_or es i d).count
-  view-found i d here unique = ap (λ b. count_of b row) (sym view) ∙ found-count es row i d here unique
-
-  pub view-up : (i m : ℕ) (d : Entry) → IsAt es row i → m ≡ (get_or es i d).count
-      → (fs : List Entry) → fs ≡ with_count es i (m + 1) → SameBag (tuples_of fs) (row ∷ bag)
-  view-up i m d here now fs is = rw (is, ← view) (counted_up es row i m d here.0 (here.1 d) now)
-
-  pub view-down : (i m : ℕ) (d : Entry) → IsAt es row i → m + 1 ≡ (get_or es i d).count
-      → (fs : List Entry) → fs ≡ with_count es i m → SameBag bag (row ∷ tuples_of fs)
-  view-down i m d here now fs is = rw (is, ← view) (counted_down es row i m d here.0 (here.1 d) now)
-
-  pub view-pushed : (fs : List Entry) → IsPermutation (es ++ record { tuple = row; count = 1 } ∷ []) fs → SameBag (tuples_of fs) (row ∷ bag)
-  view-pushed fs moved = rw (← view) (pushed_once es fs row moved)
 
 -- the entries after a push, whether or not it found memory
 pub unique-either : {E : Type 0} (r : Result (Unit {0}) E) (es fs : List Entry) (e : Entry) → Lacks es e.tuple → IsUnique es

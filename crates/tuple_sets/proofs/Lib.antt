@@ -3,3 +3,4 @@ pub mod PartLemmas
 pub mod SameLemmas
 pub mod RunLemmas
 pub mod BagLemmas
+pub mod ViewLemmas

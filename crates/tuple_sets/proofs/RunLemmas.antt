@@ -2,7 +2,7 @@
 use Rattle.std.proofs.Common.{◌≡◌, ℕ, zero, suc, ◌+◌, ◌-◌, ◌<◌, ◌≤◌, List, [], ◌∷◌, ◌++◌, length, get_or, set, take, drop, true, false, Result, Ok, Err, ◌≢◌, refl, ap, sym, subst, ◌∙◌, ⊎_elim, add-one, arith}
 use Rattle.std.specs.List.Sorted.{IsSortedBy, IsSortedWithin, IsSortedByClosure, IsBinarySearchResult, IsSearchInRange}
 use Rattle.std.specs.Result.{result_ok, OnOk}
-use Rattle.std.specs.Fn.{Called, Mut}
+use Rattle.std.specs.Fn.{Called, ComputesKey, Mut}
 use denote.Ref.{Bor}
 use Rattle.std.specs.declared.cmp.Ordering.{Ordering}
 use Rattle.std.proofs.lemmas.Fn.{always_returns_same}
@@ -19,7 +19,7 @@ use Rattle.tuple_sets.proofs.SameLemmas.{tuple_cmp-total, same_where_equal, diff
 
 -- ---- the search of one run
 
-pub found_in_run : (run : List Entry) (row : List Value) (r : Result ℕ ℕ) → IsSearchInRange r (length run)
+found_in_run : (run : List Entry) (row : List Value) (r : Result ℕ ℕ) → IsSearchInRange r (length run)
     → IsBinarySearchResult (λ e. tuple_cmp e.tuple row) run r → IsSortedBy is_before run
     → Finds run row (result_ok r)
 found_in_run run row (Ok i) within at sorted = (within, λ d. same_where_equal _ row (at d))
@@ -234,3 +234,13 @@ pub sorted_by_calls : {F E : Type 0} {g : Mut F (Bor Entry × (Bor Entry × Unit
 sorted_by_calls {g = g} {f = f} r es sorted calls =
     let by = always_returns_same g (λ a r. is_lt r ≡ is_before a.0.now a.1.0.now) f (λ a r f' k. (ap is_lt (calls a r f' k).0, (calls a r f' k).1)) in
     on_ok_weaker {P = IsSortedByClosure g f es} {Q = IsSortedBy is_before es} r (λ up. up is_before (ranks_by tuple_cmp-total (λ e. e.tuple)) by) sorted
+
+-- what `binary_search_by` says, where each call compares the entry's tuple with the row
+pub found_by_calls : {F : Type 0} {g : Mut F (Bor Entry × Unit {0}) Ordering} {f : F} (run : List Entry) (row : List Value) (r : Result ℕ ℕ)
+    → IsSearchInRange r (length run)
+    → ((ord : Entry → Ordering) → ComputesKey g ord f → IsBinarySearchResult ord run r)
+    → ((a : Bor Entry × Unit {0}) (o : Ordering) (f' : F) → Called g f a o f' → (o ≡ tuple_cmp a.0.now.tuple row) × (f' ≡ f))
+    → IsSortedBy is_before run → Finds run row (result_ok r)
+found_by_calls {g = g} {f = f} run row r within position calls sorted =
+    let ord : Entry → Ordering = λ e. tuple_cmp e.tuple row in
+    found_in_run run row r within (position ord (always_returns_same g (λ a o. o ≡ ord a.0.now) f calls)) sorted

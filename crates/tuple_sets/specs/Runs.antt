@@ -1,5 +1,5 @@
 -- Entries as they are kept: sorted runs, one behind the other.
-use Rattle.std.specs.Prelude.{◌≡◌, ℕ, zero, suc, ◌+◌, ◌<◌, ◌≤◌, List, [], ◌∷◌, length, replicate}
+use Rattle.std.specs.Prelude.{◌≡◌, ℕ, zero, suc, ◌+◌, ◌<◌, ◌≤◌, List, [], ◌∷◌, length, map, replicate}
 use Rattle.std.specs.Prelude.{Bool, true, false, Option, MatchOption, slice_index, slice_index_or}
 use Rattle.std.specs.List.{count_by, flat_map, HoldsAt}
 use Rattle.std.specs.List.Sorted.{IsSortedWithin}
@@ -42,6 +42,10 @@ Finds entries tuple found = MatchOption found (Lacks entries tuple) (IsAt entrie
 -- no two entries have one tuple
 abbrev pub IsUnique : List Entry → Type 0
 IsUnique entries = (tuple : List Value) → count_by (is_for tuple) entries ≤ 1
+
+-- the count of the entry at that place
+abbrev pub count_at : List Entry → ℕ → ℕ
+count_at entries place = slice_index (map (λ e. e.count) entries) place
 
 -- the entries, of which the one at that place has that count
 abbrev pub with_count : List Entry → ℕ → ℕ → List Entry

@@ -44,7 +44,7 @@ impl TupleBag {
     {
         match self.runs.find(row) {
             None => 0,
-            Some(place) => self.runs.entries()[place].count,
+            Some(place) => self.runs.count_at(place),
         }
     }
 
@@ -60,7 +60,7 @@ impl TupleBag {
                 count: 1,
             }),
             Some(place) => {
-                let count = self.runs.entries()[place].count;
+                let count = self.runs.count_at(place);
                 self.runs.set_count(place, count + 1);
                 Ok(())
             }
@@ -76,7 +76,7 @@ impl TupleBag {
         let Some(place) = self.runs.find(row) else {
             return false;
         };
-        let count = self.runs.entries()[place].count;
+        let count = self.runs.count_at(place);
         if count == 0 {
             return false;
         }

@@ -1,6 +1,6 @@
 // Entries in sorted runs.
 ghost use Rattle.std.specs.Prelude.{◌≡◌, ◌<◌, [], ◌∷◌, ◌++◌, length, IfOk, OnOk, OnErr, IsPermutation};
-ghost use Rattle.tuple_sets.specs.Words.{with_count, Finds};
+ghost use Rattle.tuple_sets.specs.Words.{count_at, with_count, Finds};
 
 use crate::entry::Entry;
 use crate::join::join;
@@ -39,17 +39,19 @@ impl Runs {
         }
     }
 
-    pub(crate) fn entries(&self) -> &[Entry]
-        ensures { result.now ≡ self.now }
-    {
-        &self.entries
-    }
-
     /// The place of an entry that has the row, if there is one.
     pub(crate) fn find<F: Fields>(&self, row: &F) -> Option<usize>
         ensures { Finds self.now (F.tuple row.now) result }
     {
         find(&self.entries, &self.ends, row)
+    }
+
+    /// The count of the entry at that place.
+    pub(crate) fn count_at(&self, place: usize) -> u64
+        requires { place < length self.now }
+        ensures { result ≡ count_at self.now place }
+    {
+        self.entries[place].count
     }
 
     /// Gives the entry at that place the count.

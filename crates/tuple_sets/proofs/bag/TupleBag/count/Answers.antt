@@ -1,5 +1,5 @@
-use Rattle.std.proofs.Common.{sym}
-use Rattle.tuple_sets.proofs.BagLemmas.{view-lacks, view-found}
+use Rattle.std.proofs.Common.{sym, ◌∙◌}
+use Rattle.tuple_sets.proofs.ViewLemmas.{view-lacks, view-found}
 use Rattle.tuple_sets.proofs.bag.TupleBag.count.Goals as goal
 
 pub returns-in-None : goal.returns-in-None
@@ -8,5 +8,6 @@ returns-in-None g c =
 
 pub returns-in-Some : goal.returns-in-Some
 returns-in-Some g c =
-    rw c.entries.ensures
-    (sym (view-found c.self.inside.runs c.args.self.now c.self.view_is (g.F.Fields.tuple c.args.row.now) c.in-Some.place _ c.in-Some.ensures c.self.invariant))
+    c.count_at.ensures
+    ∙ sym (view-found c.self.inside.runs c.args.self.now c.self.view_is (g.F.Fields.tuple c.args.row.now)
+    c.in-Some.place c.in-Some.ensures c.self.invariant)

@@ -1,7 +1,7 @@
 use Rattle.std.proofs.Common.{◌<◌, ◌∷◌, arith}
 use Rattle.std.proofs.lemmas.Result.{on_ok_weaker}
 use Rattle.tuple_sets.specs.Bags.{count_of}
-use Rattle.tuple_sets.proofs.BagLemmas.{has-again, has-same}
+use Rattle.tuple_sets.proofs.ViewLemmas.{has-again, has-same}
 use Rattle.tuple_sets.proofs.set.KeySet.add.Goals as goal
 
 pub returns-then-count-gt0-clause-ok : goal.returns-then-count-gt0-clause-ok

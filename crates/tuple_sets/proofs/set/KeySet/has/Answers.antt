@@ -1,7 +1,7 @@
 use Rattle.std.proofs.Common.{sym, ap, ◌∙◌}
 use Rattle.tuple_schema.specs.Tuples.{part}
 use Rattle.tuple_sets.specs.Bags.{has}
-use Rattle.tuple_sets.proofs.BagLemmas.{has-count}
+use Rattle.tuple_sets.proofs.ViewLemmas.{has-count}
 use Rattle.tuple_sets.proofs.set.KeySet.has.Goals as goal
 
 pub returns : goal.returns
