@@ -54,17 +54,16 @@ impl TupleBag {
         ensures ok { OnOk result (SameBag self.new (row ∷ self.old)) }
         ensures err { OnErr result (self.new ≡ self.old) }
     {
-        match self.runs.find(&row) {
-            None => self.runs.push(Entry {
+        let Some(place) = self.runs.find(&row) else {
+            let entry = Entry {
                 tuple: row,
                 count: 1,
-            }),
-            Some(place) => {
-                let count = self.runs.count_at(place);
-                self.runs.set_count(place, count + 1);
-                Ok(())
-            }
-        }
+            };
+            return self.runs.push(entry);
+        };
+        let count = self.runs.count_at(place);
+        self.runs.set_count(place, count + 1);
+        Ok(())
     }
 
     /// Takes the row away once, and says whether the bag had it.
