@@ -1,0 +1,4 @@
+pub mod Bags
+pub mod Order
+pub mod Runs
+pub mod Words
