@@ -1,6 +1,6 @@
 // The nodes of a flow as transforms of whole lists.
-use crate::projecting::project;
 use crate::mapping::map;
+use crate::projecting::project;
 use crate::selecting::select;
 use flow_types::{Kind, Node};
 use row_batch::Batch;

@@ -1,5 +1,5 @@
 -- Trees that nodes make, computed. A node here is the number of trees that it takes.
-use Rattle.std.proofs.Common.{◌≡◌, ℕ, List, [], ◌∷◌, ◌++◌, refl}
+use Rattle.std.proofs.Common.{◌≡◌, ℕ, [], ◌∷◌, refl}
 use Rattle.list_algebra.specs.Trees.{Tree, node, no_trees, tree, in_order, trees_in}
 
 abbrev leaf : Tree ℕ

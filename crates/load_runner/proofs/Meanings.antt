@@ -40,9 +40,9 @@ own_same : (truth listing : Lists) (n : Node) (k : Kind) (trees : Trees Node) �
     → keeps_order k ≡ true → ListsTruth k (truth n) (listing n)
     → taken (listing n) (lists_of truth trees) ≡ taken (truth n) (lists_of truth trees)
 own_same truth listing n k no_trees is over ordered listed = elim (source_or_over k [] n.schema over) [
-    | inl source ↦ own_listed (truth n) (listing n) k source.0 source.1 ordered listed
-    | inr some ↦ absurd (omega arith)
-  ]
+  | inl source ↦ own_listed (truth n) (listing n) k source.0 source.1 ordered listed
+  | inr some ↦ absurd (omega arith)
+]
 own_same truth listing n k (tree first rest) is over ordered listed = refl
 
 abbrev IsOrdered : Node → Type 0
