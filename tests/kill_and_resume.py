@@ -1,8 +1,8 @@
 #!/usr/bin/env python3
 """Kills loads of the proved program with SIGKILL, again and again, and compares what stands at the end.
 
-Usage: kill_and_resume.py [KILLS [SEED]]. A table of a few hundred thousand rows is loaded in blocks of 100
-rows, once from a selection and once from a join. Each load is killed at a random moment, until so many were killed; the
+Usage: kill_and_resume.py [KILLS [SEED [NAME...]]]. A table of a few hundred thousand rows is loaded in blocks of 100
+rows, of each flow that is named: selection and map where none is, and join once flows take it. Each load is killed at a random moment, until so many were killed; the
 last load completes. Then the rows are those of a load that nobody killed, their number is the one that awk counts in
 the sources, another load adds nothing, and a changed flow file is refused and leaves the table as it is.
 """
@@ -21,6 +21,11 @@ PROGRAM = os.environ.get("WHLOAD", os.path.join(TOP, "crates", "whload", "out", 
 SELECTION = b"""table = { input = "large" }
 source = [ { name = "readings", file = "readings.csv", columns = ["meter_no int", "hour int", "watt_hours int"], promise = "seq" } ]
 node = [ { name = "some", kind = "select", input = "readings", where = "watt_hours >= 250 and not hour is null" }, { name = "large", kind = "project", input = "some", columns = ["hour", "watt_hours", "meter_no as meter"] } ]
+"""
+
+MAP = b"""table = { input = "priced" }
+source = [ { name = "readings", file = "readings.csv", columns = ["meter_no int", "hour int", "watt_hours int"], promise = "seq" } ]
+node = [ { name = "priced", kind = "map", input = "readings", set = ["cost = scale(watt_hours * 0.31, 2)", "meter_no = -meter_no"] } ]
 """
 
 JOIN = b"""table = { input = "placed" }
@@ -55,11 +60,12 @@ def make_meters(path):
 
 # The flow, what makes its sources, and the line by which awk counts the rows.
 LOADS = {
-    "a selection": (SELECTION, make_readings,
-                    ["awk", "-F,", "NR > 1 && $3 >= 250 { n++ } END { print n + 0 }", "readings.csv"]),
-    "a join": (JOIN, make_meters,
-               ["awk", "-F,", "FNR > 1 && NR == FNR { n[$1]++ } FNR > 1 && NR > FNR { all += n[$1] } "
-                "END { print all + 0 }", "meters.csv", "readings.csv"]),
+    "selection": (SELECTION, make_readings,
+                  ["awk", "-F,", "NR > 1 && $3 >= 250 { n++ } END { print n + 0 }", "readings.csv"]),
+    "map": (MAP, make_readings, ["awk", "NR > 1 { n++ } END { print n + 0 }", "readings.csv"]),
+    "join": (JOIN, make_meters,
+             ["awk", "-F,", "FNR > 1 && NR == FNR { n[$1]++ } FNR > 1 && NR > FNR { all += n[$1] } "
+              "END { print all + 0 }", "meters.csv", "readings.csv"]),
 }
 
 
@@ -184,8 +190,8 @@ def main():
     if not os.access(PROGRAM, os.X_OK):
         fail("there is no " + PROGRAM)
     moments = random.Random(seed)
-    for name, (flow, make, counting) in LOADS.items():
-        kill_and_resume(name, flow, make, counting, kills, moments)
+    for name in sys.argv[3:] or ["selection", "map"]:
+        kill_and_resume(name, *LOADS[name], kills, moments)
 
 
 main()
