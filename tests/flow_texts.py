@@ -14,8 +14,9 @@ GOOD = "table={input='a'}\nsource=[{name='a',file='a.csv',columns=['n int'],prom
 
 MISSING = "source a: file is missing"
 
-# The nodes of `NODES` that are built, over the table's input.
+# The nodes of `NODES` that are built, over the table's input, and those over inputs that aren't there.
 BUILT = "a: is used twice"
+NO_INPUT = "j: no input l"
 
 # What is wrong behind the source in `SOURCES`.
 NEXT = "node 1 name 0: absent"
@@ -203,13 +204,13 @@ NODES = [
     ("name='j',kind='join',left='l'", "node 1 right 0: absent"),
     ("name='j',kind='join',left='l',right=1", "node 1 right 0: not text"),
     ("name='j',kind='join',left='l',right='r'", "node 1 on 0: absent"),
-    ("name='j',kind='join',left='l',right='r',on=['n','n = m']", NOT_BUILT),
+    ("name='j',kind='join',left='l',right='r',on=['n','n = m']", NO_INPUT),
     ("name='j',kind='join',left='l',right='r',on=['n = M']", "node 1 on 1: bad word"),
     ("name='j',kind='join',left='l',right='r',on=['n =m']", "node 1 on 1: bad word"),
     ("name='j',kind='join',left='l',right='r',on=['n = m = k']", "node 1 on 1: bad word"),
     ("name='j',kind='join',left='l',right='r',on=['n','M = n']", "node 1 on 2: bad name"),
     ("name='j',kind='join',left='l',right='r',on=['n'],input='l'", "node 1 input 0: unknown"),
-    ("name='j',kind='lookup',left='l',right='r',on=['n']", NOT_BUILT),
+    ("name='j',kind='lookup',left='l',right='r',on=['n']", NO_INPUT),
     ("name='j',kind='lookup',left='l',right='r',on=[]", "node 1 on 0: empty"),
     ("name='g',kind='aggregate',input='a'", "node 1 by 0: absent"),
     ("name='g',kind='aggregate',input='a',by=['n','N']", "node 1 by 2: bad name"),
@@ -420,7 +421,7 @@ def sources():
 
 def nodes():
     for text, line in NODES:
-        told = line if line in (BUILT, NOT_BUILT) else "flow.toml " + line
+        told = line if line in (BUILT, NO_INPUT, NOT_BUILT) else "flow.toml " + line
         expect_told(f"node=[{{{text}}}]\n{GOOD}", told)
     for text, line in [
             ("{name='d',kind='distinct',input='a'}," * 64, NOT_BUILT),

@@ -36,6 +36,24 @@ const KINDS_NODES: [&str; 3] = [
     "2 m map 2 = Length(Boxed { inner: Column(u) }), 1 = Number { units: 150, places: 2 } over 1: u'? d.2 z?",
 ];
 
+// The same of a join and a lookup.
+const JOINED: &[u8] = b"\
+table={input='l'}
+source=[{name='a',file='a.csv',promise='seq',columns=['n int','t text']},
+{name='b',file='b.csv',promise='seq',columns=['x text','n int?','m dec1']},
+{name='c',file='c.csv',promise='seq',columns=['y dec1','z int']}]
+node=[{name='l',kind='lookup',left='j',right='c',on=['m = y']},
+{name='j',kind='join',left='a',right='b',on=['t = x','n']}]
+";
+
+const JOINED_NODES: [&str; 5] = [
+    "0 a a.csv csv seq key none grouped none: n t'",
+    "1 b b.csv csv seq key none grouped none: x' n? m.1",
+    "4 j join 1 0 with 0 1 over 0 over 1: n t' m.1",
+    "2 c c.csv csv seq key none grouped none: y.1 z",
+    "3 l lookup 2 with 0 over 4 over 2: n t' m.1 z?",
+];
+
 fn typed(alloc: Global, text: &[u8]) -> Result<Flow, Fail> {
     if text.len() > 65536 {
         return Err(Fail::new("longer than a flow file"));
@@ -88,11 +106,18 @@ fn sets_line(alloc: Global, sets: &Assigns) -> Result<String, Fail> {
     Ok(line)
 }
 
+fn pairs_line(alloc: Global, kind: &str, left: &Cols, right: &Cols) -> Result<String, Fail> {
+    let (left, right) = (places(alloc, left)?, places(alloc, right)?);
+    Ok(format!(in alloc; "{kind}{left} with{right}")?)
+}
+
 fn kind_line(alloc: Global, kind: &Kind) -> Result<String, Fail> {
     match kind {
         Kind::Source(source) => source_line(alloc, source),
         Kind::Select { test } => Ok(format!(in alloc; "select {test:?}")?),
         Kind::Map { sets } => sets_line(alloc, sets),
+        Kind::Join { left, right } => pairs_line(alloc, "join", left, right),
+        Kind::Lookup { left, right } => pairs_line(alloc, "lookup", left, right),
         Kind::Project { from } => Ok(format!(in alloc; "project{}", places(alloc, from)?)?),
     }
 }
@@ -123,7 +148,11 @@ fn node_line(alloc: Global, node: &Node) -> Result<String, Fail> {
 
 #[test]
 fn the_nodes_come_from_the_source_on(rt: HostRuntime) -> Result<(), Fail> {
-    for (text, wanted) in [(FLOW, NODES.as_slice()), (KINDS, KINDS_NODES.as_slice())] {
+    for (text, wanted) in [
+        (FLOW, NODES.as_slice()),
+        (KINDS, KINDS_NODES.as_slice()),
+        (JOINED, JOINED_NODES.as_slice()),
+    ] {
         let flow = typed(rt.alloc(), text)?;
         assert_eq!(rt; flow.count(), wanted.len());
         for (node, want) in flow.nodes().iter().zip(wanted) {
@@ -157,11 +186,24 @@ const CAUSES: [(&str, &str); 8] = [
     ),
 ];
 
-fn cause(alloc: Global, node: &str) -> Result<String, Fail> {
-    let text = format!(in alloc;
-        "table={{input='q'}}\n{}\nnode=[{{name='q',input='a',{node}}}]\n",
-        "source=[{name='a',file='a.csv',promise='seq',columns=['n int','t text']}]"
-    )?;
+const SOURCE: &str = "source=[{name='a',file='a.csv',promise='seq',columns=['n int','t text']}]";
+
+// The same of pairs, with the columns `n int?`, `m int` and `x text` at the right.
+const PAIR_CAUSES: [(&str, &str); 7] = [
+    ("'k = n'", "UnknownColumn { column: k }"),
+    ("'n','t = k'", "UnknownColumn { column: k }"),
+    ("'n = x','n = x'", "KindDiffers"),
+    ("'n','n = m'", "DoubleColumn { column: n }"),
+    ("'n','t = x','t = x'", "DoubleColumn { column: t }"),
+    ("'n = m'", "DoubleColumn { column: n }"),
+    ("'t = n'", "KindDiffers"),
+];
+
+const SOURCES: &str = "source=[{name='a',file='a.csv',promise='seq',columns=['n int','t text']},
+{name='b',file='b.csv',promise='seq',columns=['n int?','m int','x text']}]";
+
+fn cause(alloc: Global, sources: &str, node: &str) -> Result<String, Fail> {
+    let text = format!(in alloc; "table={{input='q'}}\n{sources}\nnode=[{{name='q',{node}}}]\n")?;
     if text.len() > 65536 {
         return Err(Fail::new("longer than a flow file"));
     }
@@ -179,7 +221,14 @@ fn cause(alloc: Global, node: &str) -> Result<String, Fail> {
 #[test]
 fn a_node_is_refused_by_its_first_cause(rt: HostRuntime) -> Result<(), Fail> {
     for (node, want) in CAUSES {
-        assert_eq!(rt; cause(rt.alloc(), node)?.as_str(), want);
+        let node = format!(in rt.alloc(); "input='a',{node}")?;
+        assert_eq!(rt; cause(rt.alloc(), SOURCE, node.as_str())?.as_str(), want);
+    }
+    for (pairs, want) in PAIR_CAUSES {
+        for kind in ["join", "lookup"] {
+            let node = format!(in rt.alloc(); "kind='{kind}',left='a',right='b',on=[{pairs}]")?;
+            assert_eq!(rt; cause(rt.alloc(), SOURCES, node.as_str())?.as_str(), want);
+        }
     }
     Ok(())
 }

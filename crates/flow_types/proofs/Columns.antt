@@ -20,8 +20,8 @@ use Rattle.workflow_file.specs.Texts.{is_kind, without_mark, is_column_rest, lac
 use Rattle.flow_types.specs.Columns.{word_in, kind_of, stated_column}
 use Rattle.flow_types.specs.Taken.{IsTaken, Takes}
 use Rattle.flow_types.specs.declared.fault.SchemaCause.TheVariants as cause
-use Rattle.flow_types.specs.Names.{least, name_at, is_again, again, no_double, names_in, place_of}
-use Rattle.flow_types.specs.Typed.{new_name, renamed, output_column}
+use Rattle.flow_types.specs.Names.{least, name_at, is_again, again, no_double, names_in, place_of, last_name}
+use Rattle.flow_types.specs.Typed.{renamed, output_column}
 
 none_parts : (a b : Option ℕ) → option_or a b ≡ None → (a ≡ None) × (b ≡ None)
 none_parts None b none = (refl, none)
@@ -142,7 +142,7 @@ kind_scaled word is =
       ]
     ]
 
-scaled_schema : (columns : List Column) → 1 ≤ length columns → length columns ≤ 64 → no_double (names_in columns) ≡ Ok tt → All (λ c. HasScale c.kind) columns → IsSchema columns
+pub scaled_schema : (columns : List Column) → 1 ≤ length columns → length columns ≤ 64 → no_double (names_in columns) ≡ Ok tt → All (λ c. HasScale c.kind) columns → IsSchema columns
 scaled_schema columns some few fine scaled = record {
   some = some;
   few = few;
@@ -196,5 +196,5 @@ taken_schema input columns from schema takes some few fine =
 
 -- a text takes the column at the place of its name
 pub output_is : (columns : List Column) (text : List ℕ) (place : ℕ) (c : Column) → Some place ≡ place_of (names_in columns) (head_of text)
-    → place < length columns → c ≡ get_or columns place c → Some (renamed (new_name text) c) ≡ output_column columns text
+    → place < length columns → c ≡ get_or columns place c → Some (renamed (last_name text) c) ≡ output_column columns text
 output_is columns text place c there h is = rw (← there, slice_get_read columns (length columns) place c refl h is) refl

@@ -132,6 +132,8 @@ ordered n below is = by n.kind refl is.over
     by (kind.Select test) same over = rw same refl
     by (kind.Project from) same over = rw same refl
     by (kind.Map sets) same over = rw same refl
+    by (kind.Join left right) same over = rw same refl
+    by (kind.Lookup left right) same over = rw same refl
 
 -- each node of a flow keeps the order of rows
 pub fixed_root : (flow : TypedFlow) → IsFlow flow → has_fixed_root flow.nodes ≡ true

@@ -20,4 +20,6 @@ pub mod Said
 pub mod KeptTexts
 pub mod Each
 pub mod Distincts
+pub mod SetNames
 pub mod SetColumns
+pub mod Pairs

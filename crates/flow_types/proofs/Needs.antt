@@ -14,7 +14,7 @@ use Rattle.flow_types.specs.Trees.{inputs_below, IsWhole}
 use Rattle.flow_types.proofs.Whole.{whole_inputs}
 use Rattle.flow_types.proofs.Links.{inputs_counted}
 use Rattle.flow_types.specs.NodeTexts.{NodeText, source, text_of, text_at, inputs_needed}
-use Rattle.flow_types.proofs.Said.{Said, by_test, by_columns, by_set, said}
+use Rattle.flow_types.proofs.Said.{Said, by_test, by_columns, by_set, by_join, by_lookup, said}
 
 is_absent : {X : Type 0} (o : Option X) → is_some o ≡ false → o ≡ None
 is_absent None absent = refl
@@ -55,6 +55,21 @@ maps_one : HasOne (codes "map")
 unfolding keys_of
 maps_one = (refl, refl, refl, refl)
 
+-- a kind with two, left and right
+abbrev HasTwo : List ℕ → Type 0
+HasTwo kind = Has false (codes "input") kind × Has true (codes "left") kind × Has true (codes "right") kind × Has false (codes "inputs") kind
+
+has_two : (kind word : List ℕ) → kind ≡ word → HasTwo word → HasTwo kind
+has_two kind word is has = subst HasTwo (sym is) has
+
+joins_two : HasTwo (codes "join")
+unfolding keys_of
+joins_two = (refl, refl, refl, refl)
+
+looks_up_two : HasTwo (codes "lookup")
+unfolding keys_of
+looks_up_two = (refl, refl, refl, refl)
+
 module _ (n : RawNode) (keeps : KeepsNode n) where
   -- so such a node names its input alone
   names_one : HasOne n.kind → length (input_names n) ≡ 1
@@ -64,11 +79,21 @@ module _ (n : RawNode) (keeps : KeepsNode n) where
       let inputs : n.inputs ≡ None = is_absent n.inputs (keeps.inputs.there ∙ has.3) in
       rw (left, right, inputs, append-nil) (one_of n.input (keeps.input.there ∙ has.0))
 
+  names_two : HasTwo n.kind → length (input_names n) ≡ 2
+  names_two has =
+      let input : n.input ≡ None = is_absent n.input (keeps.input.there ∙ has.0) in
+      let inputs : n.inputs ≡ None = is_absent n.inputs (keeps.inputs.there ∙ has.3) in
+      let left = one_of n.left (keeps.left.there ∙ has.1) in
+      let right = one_of n.right (keeps.right.there ∙ has.2) in
+      rw (input, inputs, append-nil, length-append, left, right) refl
+
   -- what a node says needs as many inputs as it names
   names_needed : (text : NodeText) → Said n text → length (input_names n) ≡ inputs_needed text
   names_needed text (by_test test kind at is) = rw (← is) (names_one (has_one n.kind (codes "select") kind selects_one))
   names_needed text (by_columns texts kind at is) = rw (← is) (names_one (has_one n.kind (codes "project") kind projects_one))
   names_needed text (by_set texts kind at is) = rw (← is) (names_one (has_one n.kind (codes "map") kind maps_one))
+  names_needed text (by_join texts kind at is) = rw (← is) (names_two (has_two n.kind (codes "join") kind joins_two))
+  names_needed text (by_lookup texts kind at is) = rw (← is) (names_two (has_two n.kind (codes "lookup") kind looks_up_two))
 
 pub needs_source : (flow : RawFlow) (place : ℕ) → place < length flow.sources → get_or (needs_of flow) place [] ≡ []
 needs_source flow place h =

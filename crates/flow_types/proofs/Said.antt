@@ -3,13 +3,15 @@ use Rattle.std.proofs.Common.{◌≡◌, ℕ, List, codes, bytes_eq, true, refl,
 use Rattle.std.proofs.lemmas.Bool.{cases_Bool}
 use Rattle.std.proofs.lemmas.Slice.Eq.{bytes_eq-Decides}
 use Rattle.workflow_file.specs.declared.raw.RawNode.{RawNode}
-use Rattle.flow_types.specs.NodeTexts.{NodeText, select, project, mapped, text_of}
+use Rattle.flow_types.specs.NodeTexts.{NodeText, select, project, mapped, joined, looked_up, text_of}
 
 -- a node of a kind says the text or the texts of the kind's key
 pub data Said (n : RawNode) (text : NodeText) : Type 0 where
   by_test : (test : List ℕ) → n.kind ≡ codes "select" → n.test ≡ Some test → select test ≡ text → Said n text
   by_columns : (texts : List (List ℕ)) → n.kind ≡ codes "project" → n.columns ≡ Some texts → project texts ≡ text → Said n text
   by_set : (texts : List (List ℕ)) → n.kind ≡ codes "map" → n.set ≡ Some texts → mapped texts ≡ text → Said n text
+  by_join : (texts : List (List ℕ)) → n.kind ≡ codes "join" → n.on ≡ Some texts → joined texts ≡ text → Said n text
+  by_lookup : (texts : List (List ℕ)) → n.kind ≡ codes "lookup" → n.on ≡ Some texts → looked_up texts ≡ text → Said n text
 
 made_of : {X : Type 0} (make : X → NodeText) (o : Option X) (text : NodeText) → option_map make o ≡ Some text → (x : X) × (o ≡ Some x) × (make x ≡ text)
 made_of make None text is = absurd (cc)
@@ -33,7 +35,17 @@ module _ (n : RawNode) (text : NodeText) where
             | inl same ↦
                 let made = made_of mapped n.set text (rw (no_select, no_project, same) at is) in
                 by_set made.0 (is_kind (codes "map") same) made.1 made.2
-            | inr no_map ↦ let none : None ≡ Some text = rw (no_select, no_project, no_map) at is in absurd (cc)
+            | inr no_map ↦ elim (cases_Bool (bytes_eq n.kind (codes "join"))) [
+              | inl same ↦
+                  let made = made_of joined n.on text (rw (no_select, no_project, no_map, same) at is) in
+                  by_join made.0 (is_kind (codes "join") same) made.1 made.2
+              | inr no_join ↦ elim (cases_Bool (bytes_eq n.kind (codes "lookup"))) [
+                | inl same ↦
+                    let made = made_of looked_up n.on text (rw (no_select, no_project, no_map, no_join, same) at is) in
+                    by_lookup made.0 (is_kind (codes "lookup") same) made.1 made.2
+                | inr no_lookup ↦ let none : None ≡ Some text = rw (no_select, no_project, no_map, no_join, no_lookup) at is in absurd (cc)
+              ]
+            ]
           ]
         ]
       ]

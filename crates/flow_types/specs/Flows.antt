@@ -57,6 +57,8 @@ keeps_order (kind.Source s) = s.seq
 keeps_order (kind.Select test) = true
 keeps_order (kind.Project from) = true
 keeps_order (kind.Map sets) = true
+keeps_order (kind.Join left right) = true
+keeps_order (kind.Lookup left right) = true
 
 -- the order of the root's rows is fixed: each source keeps its order, until properties of kinds say more
 abbrev pub has_fixed_root : List Node → Bool

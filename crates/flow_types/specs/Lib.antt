@@ -9,9 +9,10 @@ pub mod Built
 pub mod Taken
 pub mod Mapped
 pub mod Assigned
+pub mod Paired
+pub mod Joined
 pub mod Flows
 pub mod Typed
 pub mod Linked
 pub mod Typing
-pub mod Joined
 pub mod Words

@@ -10,11 +10,12 @@ use Rattle.expr_lang.specs.declared.kind.ExprKind.TheVariants as sort
 use Rattle.flow_types.specs.Built.{is_built_source}
 use Rattle.flow_types.specs.Taken.{Takes}
 use Rattle.flow_types.specs.Assigned.{IsAssigned}
+use Rattle.flow_types.specs.Joined.{ArePairs, join_columns, lookup_columns}
 use Rattle.flow_types.specs.declared.node.Source.{Source}
 use Rattle.flow_types.specs.declared.node.Kind.{Kind}
 use Rattle.flow_types.specs.declared.node.Kind.TheVariants as kind
 use Rattle.flow_types.specs.declared.node.Node.{Node}
-use Rattle.flow_types.specs.NodeTexts.{NodeText, source, select, project, mapped}
+use Rattle.flow_types.specs.NodeTexts.{NodeText, source, select, project, mapped, joined, looked_up}
 use Rattle.flow_types.specs.Flows.{TypedFlow, number_of, tree_of, columns_in, columns_of, ids_of}
 
 -- a source that is built at this stage: a CSV file, its rows in the truth's order
@@ -28,13 +29,22 @@ KeepsText (source s) = KeepsSource s × IsTrue (is_built_source s)
 KeepsText (select text) = ⊤
 KeepsText (project texts) = (1 ≤ length texts) × (length texts ≤ 64)
 KeepsText (mapped texts) = ⊤
+KeepsText (joined texts) = ⊤
+KeepsText (looked_up texts) = ⊤
 
 -- a kind over inputs with these columns gives these columns
 abbrev pub IsOver : Kind → List (List Column) → List Column → Type 0
 IsOver (kind.Source s) inputs columns = (inputs ≡ []) × IsBuiltSource s
-IsOver (kind.Select test) inputs columns = (inputs ≡ columns ∷ []) × (typing columns (expression_tree test) ≡ Ok sort.Truth)
+IsOver (kind.Select test) inputs columns =
+    (inputs ≡ columns ∷ []) × (typing columns (expression_tree test) ≡ Ok sort.Truth)
 IsOver (kind.Project from) inputs columns = (length inputs ≡ 1) × Takes (columns_in inputs 0) from columns
 IsOver (kind.Map sets) inputs columns = (length inputs ≡ 1) × IsAssigned (columns_in inputs 0) sets columns
+IsOver (kind.Join left right) inputs columns =
+    (length inputs ≡ 2) × ArePairs (columns_in inputs 0) (columns_in inputs 1) left right
+    × (columns ≡ join_columns (columns_in inputs 0) (columns_in inputs 1) right)
+IsOver (kind.Lookup left right) inputs columns =
+    (length inputs ≡ 2) × ArePairs (columns_in inputs 0) (columns_in inputs 1) left right
+    × (columns ≡ lookup_columns (columns_in inputs 0) (columns_in inputs 1) right)
 
 -- a node over these inputs, whose columns are a schema
 pub record IsLinked (n : Node) (below : List Node) : Type 0 where

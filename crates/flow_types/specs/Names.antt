@@ -1,10 +1,10 @@
 -- Names in lists: which comes twice, and which isn't there.
-use Rattle.std.specs.Prelude.{ℕ, zero, suc, List, [], length, take, get_or, filter_map, find, map, bytes_eq, Bool, is_none, if◌then◌else◌, Option, Some, None, option_map, Result, Ok, Err}
+use Rattle.std.specs.Prelude.{ℕ, zero, suc, List, [], length, take, get_or, filter_map, find, map, bytes_eq, Bool, is_none, if◌then◌else◌, unwrap_or, Option, Some, None, option_map, Result, Ok, Err}
 use Rattle.std.specs.List.{position}
 use Rattle.std.specs.Option.{option_or}
 use Rattle.tuple_schema.specs.Stops.{◌>>=◌}
 use Rattle.tuple_schema.specs.declared.schema.Column.{Column}
-use Rattle.tuple_schema.specs.Texts.{is_among}
+use Rattle.tuple_schema.specs.Texts.{is_among, head_of, rest_of}
 use Rattle.flow_types.specs.declared.fault.SchemaCause.{SchemaCause}
 use Rattle.flow_types.specs.declared.fault.SchemaCause.TheVariants as cause
 
@@ -16,6 +16,14 @@ least (suc n) test = option_or (least n test) (if test n then Some n else None)
 -- the first place of a name
 abbrev pub place_of : List (List ℕ) → List ℕ → Option ℕ
 place_of names name = position (λ n. bytes_eq n name) names
+
+-- the last name of `NAME`, `NAME as NAME` or `NAME = NAME`: what follows the second space, or the name itself
+abbrev pub name_from : List ℕ → Option (List ℕ) → List ℕ
+name_from name None = name
+name_from name (Some rest) = unwrap_or (rest_of rest) rest
+
+abbrev pub last_name : List ℕ → List ℕ
+last_name text = name_from (head_of text) (rest_of text)
 
 -- the name at a place
 abbrev pub name_at : List (List ℕ) → ℕ → List ℕ

@@ -7,12 +7,15 @@ use Rattle.workflow_file.specs.declared.raw.RawFlow.{RawFlow}
 use Rattle.flow_types.specs.declared.node_text.NodeText.{NodeText as LentText}
 use Rattle.flow_types.specs.declared.node_text.NodeText.TheVariants as lent
 
--- a source, a selection by the text of its test, a projection by the texts of its columns, or a map by its texts
+-- a source, a selection by the text of its test, a projection by the texts of its columns, a map by its texts, or a
+-- join or a lookup by the texts of its pairs
 pub data NodeText : Type 0 where
   source : RawSource → NodeText
   select : List ℕ → NodeText
   project : List (List ℕ) → NodeText
   mapped : List (List ℕ) → NodeText
+  joined : List (List ℕ) → NodeText
+  looked_up : List (List ℕ) → NodeText
 
 -- what a node that is no source says, where its kind is built and it has what that needs
 abbrev pub text_of : RawNode → Option NodeText
@@ -20,6 +23,8 @@ text_of n =
     if bytes_eq n.kind (codes "select") then option_map select n.test
     else if bytes_eq n.kind (codes "project") then option_map project n.columns
     else if bytes_eq n.kind (codes "map") then option_map mapped n.set
+    else if bytes_eq n.kind (codes "join") then option_map joined n.on
+    else if bytes_eq n.kind (codes "lookup") then option_map looked_up n.on
     else None
 
 -- what the node at a place says, sources first
@@ -34,6 +39,8 @@ inputs_needed (source s) = 0
 inputs_needed (select test) = 1
 inputs_needed (project texts) = 1
 inputs_needed (mapped texts) = 1
+inputs_needed (joined texts) = 2
+inputs_needed (looked_up texts) = 2
 
 -- what is lent of a raw flow, as it is
 abbrev pub text_seen : LentText → NodeText
@@ -41,3 +48,5 @@ text_seen (lent.Source s) = source s.now
 text_seen (lent.Select test) = select test.now
 text_seen (lent.Project texts) = project texts.now
 text_seen (lent.Map texts) = mapped texts.now
+text_seen (lent.Join texts) = joined texts.now
+text_seen (lent.Lookup texts) = looked_up texts.now

@@ -1,11 +1,11 @@
 -- The typed flow: the columns and the kind of each node, or its first fault.
-use Rattle.std.specs.Prelude.{ℕ, List, [], map, filter_map, slice_get, unwrap_or, codes, bytes_eq, Bool, false, Option, Some, None, option_map, option_and_then, Result, Ok, Err}
+use Rattle.std.specs.Prelude.{ℕ, List, [], map, filter_map, slice_get, codes, bytes_eq, Bool, false, Option, Some, None, option_map, option_and_then, Result, Ok, Err}
 use Rattle.tuple_schema.specs.Stops.{◌>>=◌}
 use Rattle.list_algebra.specs.Trees.{Tree, node, Trees, no_trees, tree, roots_of, in_order}
 use Rattle.tuple_schema.specs.declared.schema.Column.{Column}
 use Rattle.workflow_file.specs.declared.raw.RawSource.{RawSource}
 use Rattle.workflow_file.specs.declared.raw.RawFlow.{RawFlow}
-use Rattle.tuple_schema.specs.Texts.{head_of, rest_of}
+use Rattle.tuple_schema.specs.Texts.{head_of}
 use Rattle.flow_types.specs.Columns.{stated_column}
 use Rattle.flow_types.specs.declared.fault.SchemaCause.{SchemaCause}
 use Rattle.flow_types.specs.declared.fault.SchemaCause.TheVariants as cause
@@ -14,21 +14,15 @@ use Rattle.flow_types.specs.declared.node.Node.{Node}
 use Rattle.flow_types.specs.declared.node.Source.{Source}
 use Rattle.flow_types.specs.declared.node.Kind.{Kind}
 use Rattle.flow_types.specs.declared.node.Kind.TheVariants as kind
-use Rattle.flow_types.specs.Names.{name_at, names_in, no_double, no_unknown, cols_if, place_of}
+use Rattle.flow_types.specs.Names.{name_at, names_in, no_double, no_unknown, cols_if, place_of, last_name}
 use Rattle.flow_types.specs.Flows.{TypedFlow, columns_in, columns_of, ids_of}
 use Rattle.flow_types.specs.Expressions.{test_of}
 use Rattle.flow_types.specs.Each.{each_made}
+use Rattle.flow_types.specs.Paired.{pairs_of, lefts, rights}
+use Rattle.flow_types.specs.Joined.{join_columns, lookup_columns}
 use Rattle.flow_types.specs.Mapped.{setting_of, columns_set, set_columns, assign_in, only_few}
-use Rattle.flow_types.specs.NodeTexts.{NodeText, source, select, project, mapped, text_at}
+use Rattle.flow_types.specs.NodeTexts.{NodeText, source, select, project, mapped, joined, looked_up, text_at}
 use Rattle.flow_types.specs.Graph.{names_of, id_of, fault_at, graph_of}
-
--- the name that a column gets from `NAME` or `NAME as NAME`: what follows the second space, or the name itself
-abbrev pub name_from : List ℕ → Option (List ℕ) → List ℕ
-name_from name None = name
-name_from name (Some rest) = unwrap_or (rest_of rest) rest
-
-abbrev pub new_name : List ℕ → List ℕ
-new_name text = name_from (head_of text) (rest_of text)
 
 -- the column of a name
 abbrev pub column_of : List Column → List ℕ → Option Column
@@ -40,7 +34,7 @@ renamed name c = record { name = name; kind = c.kind; nullable = c.nullable }
 
 -- the column that a text of a projection takes, under its new name
 abbrev pub output_column : List Column → List ℕ → Option Column
-output_column columns text = option_map (renamed (new_name text)) (column_of columns (head_of text))
+output_column columns text = option_map (renamed (last_name text)) (column_of columns (head_of text))
 
 -- the columns of a projection
 abbrev pub output_columns : List Column → List (List ℕ) → List Column
@@ -103,12 +97,34 @@ typed_map texts columns = do
   output ← only_few (set_columns columns settings)
   Ok (kind.Map (filter_map (assign_in (names_in output)) settings), output)
 
+-- those of an output with these columns: no name comes twice, and they are few
+abbrev pub only_schema : List Column → Result (List Column) SchemaCause
+only_schema columns = do
+  _ ← no_double (names_in columns)
+  only_few columns
+
+-- those of a join of these columns
+abbrev pub typed_join : List (List ℕ) → List Column → List Column → Result (Kind × List Column) SchemaCause
+typed_join texts left right = do
+  pairs ← pairs_of left right texts
+  output ← only_schema (join_columns left right (rights pairs))
+  Ok (kind.Join (lefts pairs) (rights pairs), output)
+
+-- those of a lookup
+abbrev pub typed_lookup : List (List ℕ) → List Column → List Column → Result (Kind × List Column) SchemaCause
+typed_lookup texts left right = do
+  pairs ← pairs_of left right texts
+  output ← only_schema (lookup_columns left right (rights pairs))
+  Ok (kind.Lookup (lefts pairs) (rights pairs), output)
+
 -- the kind and the columns of a node that says this, over inputs with these columns
 abbrev pub typed_text : NodeText → List (List Column) → Result (Kind × List Column) SchemaCause
 typed_text (source s) inputs = typed_source s
 typed_text (select text) inputs = typed_select text (columns_in inputs 0)
 typed_text (project texts) inputs = typed_project texts (columns_in inputs 0)
 typed_text (mapped texts) inputs = typed_map texts (columns_in inputs 0)
+typed_text (joined texts) inputs = typed_join texts (columns_in inputs 0) (columns_in inputs 1)
+typed_text (looked_up texts) inputs = typed_lookup texts (columns_in inputs 0) (columns_in inputs 1)
 
 -- the same of what stands at a place, if something does
 abbrev pub typed_at : Option NodeText → List (List Column) → Result (Kind × List Column) SchemaCause

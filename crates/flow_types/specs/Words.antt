@@ -10,7 +10,7 @@ pub use Rattle.flow_types.specs.NodeTexts.{inputs_needed, text_at, text_of, text
 pub use Rattle.flow_types.specs.Built.{is_built, is_built_node, is_built_source, is_csv}
 pub use Rattle.flow_types.specs.Flows.{IsBelow, TypedFlow, columns_of, count_inputs, has_fixed_root, ids_of}
 pub use Rattle.flow_types.specs.Flows.{node_of, number_of, rank_of, root_in, tree_of}
-pub use Rattle.flow_types.specs.Typed.{at_node, is_word, new_name, output_columns, projection, renamed}
+pub use Rattle.flow_types.specs.Typed.{at_node, is_word, output_columns, projection, renamed}
 pub use Rattle.flow_types.specs.Typed.{source_cols, source_of, typed, typed_map, typed_node, typed_project, typed_select}
 pub use Rattle.flow_types.specs.Typed.{typed_source, typed_text, typed_tree}
 pub use Rattle.flow_types.specs.Linked.{IsBuiltSource, IsFlow, IsLinked, IsLinkedOver, IsOver, KeepsText}
@@ -20,4 +20,8 @@ pub use Rattle.flow_types.specs.Mapped.{assign_in, columns_set, is_new, only_few
 pub use Rattle.flow_types.specs.Mapped.{set_named, setting_of, value_text}
 pub use Rattle.flow_types.specs.Typing.{HasTree}
 pub use Rattle.flow_types.specs.Assigned.{HoldsCell, HoldsValue, IsAssigned, set_at, width_of}
+pub use Rattle.flow_types.specs.Names.{is_again, last_name}
+pub use Rattle.flow_types.specs.Paired.{is_of_one_kind, known_place, lefts, only_agreeing, only_once, pair_of}
+pub use Rattle.flow_types.specs.Paired.{paired_again, pairs_of, rights}
+pub use Rattle.flow_types.specs.Typed.{only_schema, typed_join, typed_lookup}
 pub use Rattle.flow_types.specs.Joined.{ArePairs, IsPair, as_nullable, join_columns, lookup_columns, other_columns}

@@ -7,7 +7,7 @@ use tuple_schema::Text;
 use workflow_file::{RawFlow, RawNode, RawSource};
 
 /// Whether the flow is one that can be typed at this stage: a table without a key, sources of promise `seq` in CSV
-/// files, and selections, projections and maps, which declare nothing.
+/// files, and selections, projections, maps, joins and lookups, which declare nothing.
 #[tactic(auto, unfolding(crate::specs::Built::is_built))]
 pub fn is_built(raw: &RawFlow) -> bool
     ensures { result ≡ is_built raw.now }
@@ -58,6 +58,7 @@ fn has_text(node: &RawNode) -> bool
         "select" => node.test.is_some(),
         "project" => node.columns.is_some(),
         "map" => node.set.is_some(),
+        "join" | "lookup" => node.on.is_some(),
         _ => false,
     }
 }

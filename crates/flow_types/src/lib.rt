@@ -5,7 +5,7 @@
 //! gives the nodes their meaning. Read `specs/Graph.antt` first, how nodes are named and reached, then
 //! `specs/Typed.antt`, their columns and the order of faults, `specs/Flows.antt`, a flow and its tree, and
 //! `specs/Linked.antt`, what holds of each flow. Built at this stage are sequences in CSV files, selections,
-//! projections and maps: `is_built`.
+//! projections, maps, joins and lookups: `is_built`.
 //!
 //! Promised: `type_flow` answers the typed flow or its first fault; every `Flow` is the nodes of one tree, inputs
 //! first, no two of one number or one name, each over the columns of its inputs, and ranks above them; `tree_laws`: the
@@ -19,12 +19,14 @@ mod expressions;
 mod fault;
 mod flow;
 mod graph;
+mod joined;
 mod laws;
 mod mapped;
 mod named;
 mod names;
 mod node;
 mod node_text;
+mod paired;
 mod typed;
 mod typing;
 

@@ -2,7 +2,7 @@
 ghost use Rattle.std.specs.Prelude.{◌≡◌, ◌<◌, map, length, bytes_eq, position, filter_map, IfOk, IfSome};
 ghost use Rattle.std.specs.List.{list_any};
 ghost use Rattle.tuple_schema.specs.Words.{Gives, GivesView, is_among};
-ghost use Rattle.flow_types.specs.Words.{names_in, again, no_double, no_unknown, cols_in, cols_if, place_of};
+ghost use Rattle.flow_types.specs.Words.{names_in, again, is_again, no_double, no_unknown, cols_in, cols_if, place_of};
 
 use crate::fault::SchemaCause;
 use crate::node::Cols;
@@ -59,6 +59,14 @@ fn is_any(names: &[&Text], name: &Text) -> bool
     ensures { result ≡ list_any (λ n. bytes_eq name.now n.now) names.now }
 {
     names.iter().any(|n| *name == **n)
+}
+
+/// Whether an earlier name is the one at the place.
+pub fn is_again(names: &[&Text], place: usize) -> bool
+    requires { place < length names.now }
+    ensures { result ≡ is_again (map (λ n. n.now) names.now) place }
+{
+    is_among(&names[..place], names[place])
 }
 
 /// The least place of a name that an earlier one is.

@@ -100,6 +100,10 @@ pub enum Kind {
     Project { from: Cols },
     /// Gives each row with values set, in columns of its own or new ones behind them.
     Map { sets: Assigns },
+    /// Gives each left row with each right one that has equal values in these columns, none of them Null.
+    Join { left: Cols, right: Cols },
+    /// The same, and a left row with which none agrees comes once, with Null behind it.
+    Lookup { left: Cols, right: Cols },
 }
 
 /// A node of a flow, with the columns of what it gives.

@@ -5,13 +5,16 @@ ghost use Rattle.flow_types.specs.Words.{is_built, name_at, names_of, text_of, t
 use tuple_schema::Text;
 use workflow_file::{RawFlow, RawNode, RawSource};
 
-/// A source, a selection by the text of its test, a projection by the texts of its columns, or a map by its texts.
+/// A source, a selection by the text of its test, a projection by the texts of its columns, a map by its texts, or a
+/// join or a lookup by the texts of its pairs.
 #[derive(Clone, Copy)]
 pub enum NodeText<'r> {
     Source(&'r RawSource),
     Select(&'r Text),
     Project(&'r [Text]),
     Map(&'r [Text]),
+    Join(&'r [Text]),
+    Lookup(&'r [Text]),
 }
 
 /// What the node at a place says, sources first.
@@ -40,6 +43,8 @@ fn text_of(node: &RawNode) -> Option<NodeText<'_>>
         "select" => Some(NodeText::Select(node.test.as_ref()?)),
         "project" => Some(NodeText::Project(node.columns.as_ref()?.items())),
         "map" => Some(NodeText::Map(node.set.as_ref()?.items())),
+        "join" => Some(NodeText::Join(node.on.as_ref()?.items())),
+        "lookup" => Some(NodeText::Lookup(node.on.as_ref()?.items())),
         _ => None,
     }
 }

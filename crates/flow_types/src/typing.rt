@@ -5,7 +5,7 @@ ghost use Rattle.workflow_file.specs.Words.{KeepsRules, KeepsSource};
 ghost use Rattle.flow_types.specs.Words.{names_in, no_double, no_unknown, place_of, tree_below, IsWhole, id_of};
 ghost use Rattle.flow_types.specs.Words.{names_of};
 ghost use Rattle.flow_types.specs.Words.{needs_of, links_of, inputs_exist, AreWithin, is_built, is_built_source};
-ghost use Rattle.flow_types.specs.Words.{text_at, text_seen, inputs_needed, ids_of, columns_of, new_name, renamed};
+ghost use Rattle.flow_types.specs.Words.{text_at, text_seen, inputs_needed, ids_of, columns_of, last_name, renamed};
 ghost use Rattle.flow_types.specs.Words.{output_columns, source_cols, is_word, source_of, projection, typed_source};
 ghost use Rattle.flow_types.specs.Words.{typed_select, typed_project, typed_text, typed_node, at_node, typed_tree};
 ghost use Rattle.flow_types.specs.Words.{IsBuiltSource, Takes, KeepsText, IsOver, IsLinked, HasTree};
@@ -14,6 +14,7 @@ use crate::column_texts::stated_columns;
 use crate::expressions::test_of;
 use crate::fault::{NodeId, SchemaCause, SchemaFault};
 use crate::graph::{Link, fault_at, inputs_below};
+use crate::joined::{type_join, type_lookup};
 use crate::mapped::type_map;
 use crate::names::{cols_if, names_in, no_double, place_of};
 use crate::node::{Cols, Inputs, Kind, Node, Source};
@@ -153,6 +154,8 @@ fn type_text(
         NodeText::Select(text) => type_select(alloc, text, &inputs[0].schema),
         NodeText::Project(texts) => type_project(alloc, texts, &inputs[0].schema),
         NodeText::Map(texts) => type_map(alloc, texts, &inputs[0].schema),
+        NodeText::Join(texts) => type_join(alloc, texts, &inputs[0].schema, &inputs[1].schema),
+        NodeText::Lookup(texts) => type_lookup(alloc, texts, &inputs[0].schema, &inputs[1].schema),
     }
 }
 
@@ -272,7 +275,7 @@ fn projection(alloc: Global, columns: &[Column], texts: &[Text]) -> Result<Taken
 }
 
 // Refuses the first name that two columns have.
-fn differ(alloc: Global, columns: &[Column]) -> Result<(), Stop<SchemaCause>>
+pub fn differ(alloc: Global, columns: &[Column]) -> Result<(), Stop<SchemaCause>>
     ensures { Gives result (no_double (names_in columns.now)) }
 {
     let names = names_in(alloc, columns)?;
@@ -329,18 +332,18 @@ fn taken_place(alloc: Global, names: &[&Text], text: &Text) -> Result<usize, Sto
 
 // The column under the name that the text gives it.
 fn output(alloc: Global, column: &Column, text: &Text) -> Result<Column, Memory>
-    ensures { IfOk result (λ c. c ≡ renamed (new_name text.now) column.now) }
+    ensures { IfOk result (λ c. c ≡ renamed (last_name text.now) column.now) }
 {
     Ok(Column {
-        name: new_name(alloc, text)?,
+        name: last_name(alloc, text)?,
         kind: column.kind,
         nullable: column.nullable,
     })
 }
 
-// The name that a column gets from `NAME` or `NAME as NAME`.
-fn new_name(alloc: Global, text: &Text) -> Result<Text, Memory>
-    ensures { IfOk result (λ t. t ≡ new_name text.now) }
+/// The last name of `NAME`, `NAME as NAME` or `NAME = NAME`.
+pub fn last_name(alloc: Global, text: &Text) -> Result<Text, Memory>
+    ensures { IfOk result (λ t. t ≡ last_name text.now) }
 {
     let Some(rest) = rest_of(text.as_str()) else {
         return head_of(alloc, text);

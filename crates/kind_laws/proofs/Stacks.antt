@@ -1,6 +1,6 @@
 -- The batches of the trees that stand when nodes were taken one after the other.
 use Rattle.std.proofs.Common.{◌≡◌, ℕ, zero, suc, ◌+◌, ◌-◌, ◌<◌, ◌≤◌, ◌==◌, List, [], ◌∷◌, ◌++◌, length, take, drop, map, fold, get_or, slice_get, count_by, cond, Bool, true, eq-eqb, Some, IfSome, refl, ap, sym, ◌∙◌, subst, inl, inr, arith}
-use Rattle.std.proofs.lemmas.List.{length-map, map-append, take-map, drop-map, take_all, take_more, drop_more}
+use Rattle.std.proofs.lemmas.List.{length-map, length-drop, map-append, take-map, drop-map, take_all, take_more, drop_more}
 use Rattle.std.proofs.lemmas.List.Sums.{fold-append, sum_by-cons}
 use Rattle.std.proofs.lemmas.Option.{same_Some}
 use Rattle.tuple_schema.specs.declared.schema.Column.{Column}
@@ -181,3 +181,15 @@ module _ (truth : Lists) (trees : List (Tree Node)) (n : Node) (linked : IsLinke
   can_take_last =
       rw (drop-map root_of (length trees - count_inputs n) trees, drop-map (batch_of truth) (length trees - count_inputs n) trees)
       (can_take truth n (drop (length trees - count_inputs n) trees) linked)
+
+-- A node has no more inputs than trees stand.
+
+pub inputs_stand : (n : Node) (trees : List (Tree Node)) → IsLinkedOver n (trees_of (drop (length trees - count_inputs n) trees))
+    → count_inputs n ≤ length trees
+inputs_stand n trees linked =
+    let here : ℕ = length trees - count_inputs n in
+    let below = linked.inputs ∙ ap ids_of (roots-list (drop here trees)) in
+    let inputs : count_inputs n ≡ length (map (λ (m : Node). m.id) (map root_of (drop here trees))) = ap length below in
+    let roots : length (map (λ (m : Node). m.id) (map root_of (drop here trees))) ≡ length (drop here trees) = rw (length-map, length-map) refl in
+    let rest : length (drop here trees) ≡ length trees - here = length-drop here trees in
+    omega arith

@@ -1,8 +1,9 @@
 -- What a kind makes of the whole lists of its inputs.
-use Rattle.std.specs.Prelude.{ℕ, List, [], get_or}
+use Rattle.std.specs.Prelude.{ℕ, List, [], length, get_or}
 use Rattle.tuple_schema.specs.declared.schema.Column.{Column}
 use Rattle.list_algebra.specs.Bags.{Tuple}
 use Rattle.list_algebra.specs.Outputs.{project}
+use Rattle.list_algebra.specs.Joins.{others, join, lookup}
 use Rattle.kind_laws.specs.Expressions.{selected, mapped}
 use Rattle.flow_types.specs.declared.node.Kind.{Kind}
 use Rattle.flow_types.specs.declared.node.Kind.TheVariants as kind
@@ -22,3 +23,7 @@ output_of (kind.Source file) columns lists = list_in lists 0
 output_of (kind.Select test) columns lists = selected test (columns_in columns 0) (list_in lists 0)
 output_of (kind.Project from) columns lists = projected from (list_in lists 0)
 output_of (kind.Map sets) columns lists = mapped sets (columns_in columns 0) (list_in lists 0)
+output_of (kind.Join left right) columns lists =
+    join left right (others (length (columns_in columns 1)) right) (list_in lists 1) (list_in lists 0)
+output_of (kind.Lookup left right) columns lists =
+    lookup left right (others (length (columns_in columns 1)) right) (list_in lists 1) (list_in lists 0)

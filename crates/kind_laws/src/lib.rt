@@ -6,8 +6,7 @@
 //! `list_algebra/specs/Joins.antt`, then `specs/Wholes.antt`, the meaning of a flow.
 //!
 //! Promised: `Transform::out` is the kind's equation on all lists that have the inputs' columns, and `whole` is the
-//! meaning of the flow, over any number of sources; what each makes has the node's columns. `join` and `lookup` are
-//! those of `list_algebra/specs/Joins.antt`, which no node is yet.
+//! meaning of the flow, over any number of sources; what each makes has the node's columns.
 //! Not promised: that memory is found.
 #![tactic(auto)]
 
@@ -22,5 +21,4 @@ mod sorted;
 mod transform;
 
 pub use evaluation::whole;
-pub use joining::{join, lookup};
 pub use transform::{Law, Transform};

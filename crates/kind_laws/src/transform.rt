@@ -1,4 +1,5 @@
 // The nodes of a flow as transforms of whole lists.
+use crate::joining::{join, lookup};
 use crate::mapping::map;
 use crate::projecting::project;
 use crate::selecting::select;
@@ -56,6 +57,14 @@ impl Transform for Law<'_> {
             Kind::Select { test } => select(alloc, test, &lists[0]),
             Kind::Project { from } => project(alloc, from.places(), columns, &lists[0]),
             Kind::Map { sets } => map(alloc, sets.items(), columns, &lists[0]),
+            Kind::Join { left, right } => {
+                let (left, right) = (left.places(), right.places());
+                join(alloc, left, right, columns, &lists[0], &lists[1])
+            }
+            Kind::Lookup { left, right } => {
+                let (left, right) = (left.places(), right.places());
+                lookup(alloc, left, right, columns, &lists[0], &lists[1])
+            }
         }
     }
 }

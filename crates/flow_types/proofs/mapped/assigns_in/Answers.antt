@@ -2,7 +2,7 @@ use Rattle.std.proofs.Common.{◌≡◌, ◌∷◌, [], ◌++◌, List, length, 
 use Rattle.std.specs.Vec.Iter.{into_iter_items}
 use Rattle.flow_types.specs.Names.{names_in}
 use Rattle.flow_types.specs.Mapped.{assign_in}
-use Rattle.flow_types.proofs.SetColumns.{assign_more}
+use Rattle.flow_types.proofs.SetNames.{assign_more}
 use Rattle.flow_types.proofs.mapped.assigns_in.Goals as goal
 
 nothing_left : {X : Type 0} (xs : List X) → length xs ≡ 0 → xs ≡ []

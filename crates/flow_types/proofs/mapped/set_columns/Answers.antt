@@ -2,7 +2,7 @@ use Rattle.std.proofs.Common.{◌++◌, [], ◌∷◌, map, take, ap, sym, ◌�
 use Rattle.std.specs.List.{filter}
 use Rattle.flow_types.specs.Names.{names_in}
 use Rattle.flow_types.specs.Mapped.{replaced, columns_set, is_new}
-use Rattle.flow_types.proofs.SetColumns.{new_more}
+use Rattle.flow_types.proofs.SetNames.{new_more}
 use Rattle.flow_types.proofs.mapped.set_columns.Goals as goal
 
 pub loop-setting-init : goal.loop-setting-init

@@ -9,7 +9,7 @@ use Rattle.flow_types.specs.Linked.{IsLinkedOver}
 use Rattle.kind_laws.specs.Outputs.{output_of}
 use Rattle.kind_laws.specs.Laws.{SourcesHaveColumns, HasOwnColumns}
 use Rattle.kind_laws.specs.Wholes.{Lists, by_number}
-use Rattle.kind_laws.proofs.Stacks.{batch_of, source_at, Made, made_source, made_other, can_take_last, grown, next_here, roots_grown, batches_grown, apart_at}
+use Rattle.kind_laws.proofs.Stacks.{batch_of, source_at, Made, made_source, made_other, can_take_last, grown, next_here, roots_grown, batches_grown, apart_at, inputs_stand}
 use Rattle.kind_laws.proofs.evaluation.whole.Goals as goal
 use Rattle.kind_laws.proofs.evaluation.whole.Goals.{in-Source+in_ok-rows-in-Source, in_default+in_ok-split_off-in_default+in_ok-split_off-in_default-2+in_ok-rows-in_default}
 
@@ -24,6 +24,28 @@ loop-node-init c = record {
   next = rw c.nodes-node-items.ensures.same (c.tree_laws.ensures.next c.args.flow.now c.nodes-node-items.ensures.flow);
   unspent = λ k n none past is. refl;
 }
+
+pub overflow_sub-at : goal.overflow_sub-at
+overflow_sub-at c =
+    let nodes = c.nodes-node-items.result.now in
+    let trees = trees_in count_inputs (take c.loop-node.node-index nodes) in
+    let n = c.node-item.result in
+    let next = next_here nodes c.loop-node.node-index n c.loop-node-test.true c.node-item.is trees c.loop-node.invariant.next in
+    let lists : length c.loop-node.lists.items ≡ length trees = ap length c.loop-node.invariant.lists ∙ rw length-map refl in
+    let stand : count_inputs n ≤ length trees = inputs_stand n trees next.0 in
+    let inputs : length c.nodes.result.now ≡ count_inputs n = ap length c.nodes.ensures in
+    omega (arith, c.len.ensures, c.loop-node.lists.ok.0, lists, stand, inputs)
+
+pub split_off-requires : goal.split_off-requires
+split_off-requires c =
+    let nodes = c.nodes-node-items.result.now in
+    let trees = trees_in count_inputs (take c.loop-node.node-index nodes) in
+    let lists : length c.loop-node.lists.items ≡ length trees = ap length c.loop-node.invariant.lists ∙ rw length-map refl in
+    let roots : length (map (λ m. m.now) c.loop-node.inputs.items) ≡ length (map root_of trees) = ap length c.loop-node.invariant.inputs in
+    let mapped : length (map (λ m. m.now) c.loop-node.inputs.items) ≡ length c.loop-node.inputs.items = rw length-map refl in
+    let rooted : length (map root_of trees) ≡ length trees = rw length-map refl in
+    let inputs : length c.loop-node.inputs.items ≡ length trees = sym mapped ∙ roots ∙ rooted in
+    omega (arith, c.len.ensures, c.loop-node.lists.ok.0, c.loop-node.inputs.ok.0, lists, inputs)
 
 pub out-requires : goal.out-requires
 out-requires c =
