@@ -1,5 +1,5 @@
 #!/usr/bin/env python3
-"""What joins and lookups are to do, run over the proved program once flows take them. It isn't in the gate yet.
+"""What joins and lookups are to do, run over the proved program.
 
 The expected rows are written here, from docs/FORMATS.md, or computed in Python from the rows of the sources.
 """

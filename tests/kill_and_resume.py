@@ -2,7 +2,7 @@
 """Kills loads of the proved program with SIGKILL, again and again, and compares what stands at the end.
 
 Usage: kill_and_resume.py [KILLS [SEED [NAME...]]]. A table of a few hundred thousand rows is loaded in blocks of 100
-rows, of each flow that is named: selection and map where none is, and join once flows take it. Each load is killed at a random moment, until so many were killed; the
+rows, of each flow that is named: selection, map and join where none is. Each load is killed at a random moment, until so many were killed; the
 last load completes. Then the rows are those of a load that nobody killed, their number is the one that awk counts in
 the sources, another load adds nothing, and a changed flow file is refused and leaves the table as it is.
 """
@@ -190,7 +190,7 @@ def main():
     if not os.access(PROGRAM, os.X_OK):
         fail("there is no " + PROGRAM)
     moments = random.Random(seed)
-    for name in sys.argv[3:] or ["selection", "map"]:
+    for name in sys.argv[3:] or ["selection", "map", "join"]:
         kill_and_resume(name, *LOADS[name], kills, moments)
 
 
