@@ -2,8 +2,8 @@
 """Kills loads of the proved program with SIGKILL, again and again, and compares what stands at the end.
 
 Usage: kill_and_resume.py [KILLS [SEED [NAME...]]]. A table of a few hundred thousand rows is loaded in blocks of 100
-rows, of each flow that is named: selection, map and join where none is. Each load is killed at a random moment, until so many were killed; the
-last load completes. Then the rows are those of a load that nobody killed, their number is the one that awk counts in
+rows, of each flow that is named: selection, map and join where none is. Each load is killed at a random moment, until so
+many were killed; the last load completes. Then the rows are those of a load that nobody killed, their number is the one that awk counts in
 the sources, another load adds nothing, and a changed flow file is refused and leaves the table as it is.
 """
 import os
@@ -152,10 +152,16 @@ def kill_often(killed, kills, moments, took):
     """Kills so many loads, and returns how many of them had committed more than the one before."""
     done, before, grew = 0, 0, 0
     while done < kills:
-        # A load that is killed at once adds nothing, and one that is killed late may have nothing left to add.
+        # A load that is killed at once adds nothing, and one that is killed late may have nothing left to add. Where one of
+        # all rows ends before it is killed, they take less time than was thought.
+        begun = time.monotonic()
         child = start(killed)
-        time.sleep(moments.random() * took * 0.9)
-        child.kill()
+        try:
+            child.wait(timeout=moments.random() * took * 0.9)
+            if before == 0:
+                took = time.monotonic() - begun
+        except subprocess.TimeoutExpired:
+            child.kill()
         child.communicate()
         if child.returncode == 0:
             os.unlink(os.path.join(killed, "table.whl"))
