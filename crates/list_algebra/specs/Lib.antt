@@ -4,4 +4,8 @@ pub mod Outputs
 pub mod Properties
 pub mod Trees
 pub mod Joins
+pub mod Comparing
+pub mod Sorting
+pub mod Groups
+pub mod Unions
 pub mod Words
