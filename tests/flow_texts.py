@@ -17,6 +17,7 @@ MISSING = "source a: file is missing"
 # The nodes of `NODES` that are built, over the table's input, and those over inputs that aren't there.
 BUILT = "a: is used twice"
 NO_INPUT = "j: no input l"
+NO_OTHER_INPUT = "u: no input b"
 
 # What is wrong behind the source in `SOURCES`.
 NEXT = "node 1 name 0: absent"
@@ -229,9 +230,9 @@ NODES = [
     ("name='g',kind='aggregate',input='a',by=['n'],make=['c = sum N']", "node 1 make 1: bad word"),
     ("name='g',kind='aggregate',input='a',by=['n'],make=['c = avg n']", "node 1 make 1: bad word"),
     ("name='o',kind='sort',input='a'", "node 1 by 0: absent"),
-    ("name='o',kind='sort',input='a',by=['n','n']", NOT_BUILT),
+    ("name='o',kind='sort',input='a',by=['n','n']", BUILT),
     ("name='o',kind='sort',input='a',by=['n desc']", "node 1 by 1: bad name"),
-    ("name='d',kind='distinct',input='a'", NOT_BUILT),
+    ("name='d',kind='distinct',input='a'", BUILT),
     ("name='d',kind='distinct',input='a',by=['n']", "node 1 by 0: unknown"),
     ("name='u',kind='union',input='a'", "node 1 inputs 0: absent"),
     ("name='u',kind='union',inputs='a'", "node 1 inputs 0: not a list"),
@@ -239,7 +240,8 @@ NODES = [
     ("name='u',kind='union',inputs=['a','B']", "node 1 inputs 2: bad name"),
     ("name='u',kind='union',inputs=['a','b']", "node 1 order 0: absent"),
     ("name='u',kind='union',inputs=['a','b'],order='first'", "node 1 order 0: bad word"),
-    ("name='u',kind='union',inputs=['a','b'],order='append'", NOT_BUILT),
+    ("name='u',kind='union',inputs=['a','b'],order='append'", NO_OTHER_INPUT),
+    ("name='u',kind='union',inputs=['a','b'],order='any'", NOT_BUILT),
     ("name='u',kind='union',inputs=['a','b'],order='any',input='a'", "node 1 input 0: unknown"),
     ("name='n',kind='number',input='a'", "node 1 column 0: absent"),
     ("name='n',kind='number',input='a',column=1", "node 1 column 0: not text"),
@@ -421,10 +423,10 @@ def sources():
 
 def nodes():
     for text, line in NODES:
-        told = line if line in (BUILT, NO_INPUT, NOT_BUILT) else "flow.toml " + line
+        told = line if line in (BUILT, NO_INPUT, NO_OTHER_INPUT, NOT_BUILT) else "flow.toml " + line
         expect_told(f"node=[{{{text}}}]\n{GOOD}", told)
     for text, line in [
-            ("{name='d',kind='distinct',input='a'}," * 64, NOT_BUILT),
+            ("{name='d',kind='distinct',input='a'}," * 64, "d: name is used twice"),
             ("{name='d',kind='distinct',input='a'}," * 65, "flow.toml top 0 node 0: too many"),
             ("{name='u',kind='union',inputs=[" + "'a'," * 16 + "],order='any'}", NOT_BUILT),
             ("{name='u',kind='union',inputs=[" + "'a'," * 17 + "],order='any'}",

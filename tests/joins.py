@@ -6,41 +6,8 @@ The expected rows are written here, from docs/FORMATS.md, or computed in Python 
 import random
 import sys
 
-from harness import expect, expect_refusal, folder, run, run_parts
-
-# Sources without files: a flow in which nothing is wrong tells that the first one's is missing.
-MISSING = "source a: file is missing"
-
-# A source's name and columns.
-A = ("a", "n int", "m int?", "d dec2", "t text")
-B = ("b", "n int", "k text", "d dec2?", "e dec3")
-
-
-def flow_of(root, sources, nodes, more=""):
-    """A flow over sources, and over nodes as texts of TOML."""
-    text = f"table = {{ input = '{root}' }}\n"
-    for name, *columns in sources:
-        text += f"[[source]]\nname = '{name}'\nfile = '{name}.csv'\npromise = 'seq'\ncolumns = {columns}\n"
-    for node in nodes:
-        text += "[[node]]\n" + "".join(f"{key} = {value!r}\n" for key, value in node.items())
-    return (text + more).encode()
-
-
-def select(where, taken="a", name="x"):
-    return {"name": name, "kind": "select", "input": taken, "where": where}
-
-
-def assign(*texts, taken="a", name="x"):
-    return {"name": name, "kind": "map", "input": taken, "set": list(texts)}
-
-
-def join(*on, left="a", right="b", name="x", kind="join"):
-    return {"name": name, "kind": kind, "left": left, "right": right, "on": list(on)}
-
-
-def lookup(*on, left="a", right="b", name="x"):
-    return join(*on, left=left, right=right, name=name, kind="lookup")
-
+from flows import A, B, assign, csv_of, expect_cause, expect_dump, flow_of, join, load_and_dump, lookup, select
+from harness import expect, expect_refusal, run_parts
 
 # What `A` and `B` are joined on, likewise.
 ONS = [
@@ -78,12 +45,6 @@ ORDERS = [
     ("x", [A, B, ("c", "n int", "k int")], [join("n", left="y", right="c"), join("n", "d", name="y")],
      "x: column k comes twice"),
 ]
-
-
-def expect_cause(sources, nodes, root, cause):
-    line = MISSING if cause is None else cause
-    status = 4 if cause is None else 3
-    expect_refusal(f"the nodes {nodes!r:.300}", {"flow.toml": flow_of(root, sources, nodes)}, status, line)
 
 
 def causes():
@@ -134,18 +95,9 @@ MEANINGS = [
 ]
 
 
-def load_and_dump(flow, files, *batch):
-    path = folder({"flow.toml": flow, **files})
-    expect(f"a load of {flow!r:.300}", run("load", path, *batch)[0], 0)
-    return path, run("dump", path)
-
-
 def meanings():
     for sources, nodes, texts, wanted in MEANINGS:
-        files = {f"{name}.csv": text.encode() for (name, *_), text in zip(sources, texts)}
-        flow = flow_of("x", sources, nodes)
-        path, dumped = load_and_dump(flow, files)
-        expect(f"the dump of {flow!r:.300}", dumped, (0, wanted.encode(), b""))
+        expect_dump(sources, nodes, texts, wanted)
 
 
 def joined(lefts, rights, is_lookup):
@@ -155,10 +107,6 @@ def joined(lefts, rights, is_lookup):
         if not found and is_lookup:
             found = [left + [""]]
         yield from found
-
-
-def csv_of(header, rows):
-    return "\n".join([header] + [",".join(row) for row in rows]) + "\n"
 
 
 def joins():
