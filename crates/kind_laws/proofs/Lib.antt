@@ -9,3 +9,4 @@ mod Keyed
 mod Agreeing
 mod Added
 mod Joined
+pub mod Fitting

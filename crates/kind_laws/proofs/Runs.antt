@@ -1,6 +1,6 @@
 -- In a list of items that ascend by their keys, those whose key ties with a given one are one run.
 use Rattle.std.proofs.Common.{◌≡◌, ◌∙◌, ℕ, ◌+◌, ◌<◌, ◌≤◌, List, [], ◌∷◌, ◌++◌, length, take, drop, filter, get_or, All, Bool, true, false, not, ◌&&◌, ◌||◌, cond, refl, ap, sym, subst, arith}
-use Rattle.std.specs.List.{list_any}
+use Rattle.std.specs.List.{list_any, prefix_len}
 use Rattle.std.specs.List.Sorted.{IsPermutation, IsSortedBy, IsStableBy, IsPartitionPoint, IsPartitionedBy, ties}
 use Rattle.std.specs.Cmp.{IsTotalOrder}
 use Rattle.std.specs.Ordering.{is_lt, is_eq, is_le, ordering_index, ordering_reverse}
@@ -9,6 +9,7 @@ use Rattle.std.specs.declared.cmp.Ordering.TheVariants.{Less, Equal, Greater}
 use Rattle.std.proofs.lemmas.List.{take-append-drop, append-nil, length-take, length-drop, get_or-take, get_or-drop}
 use Rattle.std.proofs.lemmas.List.Elements.{filter-append, filter_agree, All-head, All-tail}
 use Rattle.std.proofs.lemmas.List.Sorted.{list_any-IsPermutation, searchable_from_sorted, IsNonDecreasingBy-drop}
+use Rattle.std.proofs.lemmas.List.Sums.{prefix_len_passes, prefix_len_stops}
 use Rattle.std.proofs.lemmas.Cmp.{alike_right}
 
 -- what passes nowhere, and what passes everywhere
@@ -102,6 +103,19 @@ pub all_behind : {X : Type 0} (P : X → Type 0) (xs : List X) (n : ℕ) → ((k
 all_behind P xs n h k d small =
     let long = length-drop n xs in
     subst P (sym (get_or-drop n xs k d)) (h (n + k) d (omega arith) (omega (arith, long, small)))
+
+stays_false : (a b : Bool) → (b ≡ true → a ≡ true) → a ≡ false → b ≡ false
+stays_false a false h f = refl
+stays_false a true h f = sym (h refl) ∙ f
+
+-- where all that passes stands first, the first that fails parts it from the rest
+pub prefix_parts : {X : Type 0} (p : X → Bool) (xs : List X) → IsPartitionedBy p xs
+    → IsPartitionPoint (λ y. p y ≡ true) (λ y. p y ≡ false) xs (prefix_len p xs)
+prefix_parts p xs parted = (
+  λ k d from small. prefix_len_passes p xs k d small,
+  λ k d from small. stays_false (p (get_or xs (prefix_len p xs) d)) (p (get_or xs k d)) (parted (prefix_len p xs) k d from small)
+      (prefix_len_stops p xs d (omega (arith, from, small))),
+)
 
 module _ {X K : Type 0} {R : K → K → Ordering} (o : IsTotalOrder R) (key : X → K) where
   -- the premises of both searches

@@ -19,6 +19,7 @@ mod projecting;
 mod selecting;
 mod sorted;
 mod transform;
+mod uniting;
 
 pub use evaluation::whole;
 pub use transform::{Law, Transform};

@@ -1,5 +1,7 @@
 // The right rows of a join that agree with a left one, found in the index.
 ghost use Rattle.std.specs.Prelude.{◌≡◌, ◌<◌, Some, length, map, All};
+ghost use Rattle.std.specs.List.{prefix_len};
+ghost use Rattle.std.specs.Ordering.{is_le};
 ghost use Rattle.tuple_schema.specs.Words.{part};
 ghost use Rattle.list_algebra.specs.Words.{matches};
 ghost use Rattle.kind_laws.specs.Words.{IsIndex, compare_keys, key_at, row_at};
@@ -29,10 +31,30 @@ pub(crate) fn matching<'a>(
         compare_to(rights, cols_right, *n, left, cols_left).is_lt()
     });
     let rest = &index[first..];
-    let count = rest.partition_point(|n| {
-        compare_to(rights, cols_right, *n, left, cols_left).is_le()
-    });
+    let count = run_length(rest, rights, cols_right, left, cols_left);
     &rest[..count]
+}
+
+// How many numbers stand before the first one whose row comes after the left row by the join columns.
+fn run_length(
+    numbers: &[usize],
+    rights: &Batch,
+    cols_right: &[usize],
+    left: &RowView<'_>,
+    cols_left: &[usize],
+) -> usize
+    requires right { All (λ c. c < length rights.now.columns) cols_right.now }
+    requires left { All (λ c. c < length left.now) cols_left.now }
+    requires pairs { length cols_right.now ≡ length cols_left.now }
+    ensures { result ≡ prefix_len (λ n. is_le (compare_keys (key_at cols_right.now rights.now.rows n)
+        (Some (part left.now cols_left.now)))) numbers.now }
+{
+    for i in 0..numbers.len() {
+        if compare_to(rights, cols_right, numbers[i], left, cols_left).is_gt() {
+            return i;
+        }
+    }
+    numbers.len()
 }
 
 // The row of a number and the left row by the join columns. A number past the last row comes first.
