@@ -9,3 +9,5 @@ mod Keyed
 mod Agreeing
 mod Added
 mod Joined
+mod KeysNumbered
+mod DistinctMore

@@ -5,4 +5,5 @@ pub mod Laws
 pub mod Promises
 pub mod Runs
 pub mod Indexes
+pub mod Keys
 pub mod Words
