@@ -1,5 +1,5 @@
 -- Keys, their numbers, and their forms.
-use Rattle.std.proofs.Common.{◌≡◌, ℕ, ◌+◌, ◌<◌, List, [], ◌∷◌, ◌++◌, length, map, Bool, true, false, not, cond, ltb, ◌||◌, position, Option, Some, None, Result, Ok, All, refl, sym, ap, ◌∙◌, inl, inr, arith}
+use Rattle.std.proofs.Common.{◌≡◌, ℕ, ◌+◌, ◌<◌, List, [], ◌∷◌, ◌++◌, length, map, Bool, true, false, not, cond, ltb, ◌||◌, position, Option, Some, None, Result, Ok, append-nil, All, refl, sym, ap, ◌∙◌, inl, inr, arith}
 use Rattle.std.specs.List.{list_any, position_or_len}
 use Rattle.std.proofs.lemmas.Bool.{cases_Bool, or_parts}
 use Rattle.std.proofs.lemmas.List.{map-append}
@@ -13,6 +13,7 @@ use Rattle.tuple_schema.specs.declared.schema.Column.{Column}
 use Rattle.row_codec.specs.declared.decode.RowFault.{RowFault}
 use Rattle.row_codec.specs.Rows.{row_bytes}
 use Rattle.row_codec.specs.Decoding.{IsRowOf, row_at}
+use Rattle.row_batch.specs.Packing.{found_row, row_in}
 use Rattle.list_algebra.specs.Bags.{same}
 use Rattle.list_algebra.proofs.Same.{same-Decides}
 use Rattle.kind_laws.specs.Keys.{key_number, with_key}
@@ -116,3 +117,10 @@ module _ (reads : (columns : List Column) (row : List Value) (rest : List ℕ) �
   same_bytes =
       let by_bytes = bytes_eq-Decides (row_bytes one) (row_bytes other) in
       same_from_decides _ _ (λ h. rows_equal (by_bytes.0 h), λ e. by_bytes.1 (ap row_bytes e)) (same-Decides one other)
+
+-- a row is read again from its bytes alone
+pub read_again : ((columns : List Column) (row : List Value) (rest : List ℕ) → IsRowOf columns row → row_at columns (row_bytes row ++ rest) ≡ Ok (row, rest))
+    → (columns : List Column) (row : List Value) → IsRowOf columns row → row_in columns (row_bytes row) ≡ row
+unfolding row_in
+read_again reads columns row is =
+    ap (λ bs. found_row (row_at columns bs)) (sym (append-nil (row_bytes row))) ∙ ap found_row (reads columns row [] is)

@@ -10,4 +10,5 @@ mod Agreeing
 mod Added
 mod Joined
 mod KeysNumbered
+mod KeysParts
 mod DistinctMore

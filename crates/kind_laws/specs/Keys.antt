@@ -1,7 +1,9 @@
 -- Keys in the order in which they were first seen, each with its place as its number.
-use Rattle.std.specs.Prelude.{ℕ, List, [], ◌∷◌, ◌++◌, Bool, if◌then◌else◌, filter_map, slice_get}
+use Rattle.std.specs.Prelude.{◌≡◌, ℕ, ◌<◌, List, [], ◌∷◌, ◌++◌, length, map, filter_map, slice_get, All, Bool, if◌then◌else◌}
 use Rattle.std.specs.List.{list_any, position_or_len}
 use Rattle.tuple_schema.specs.declared.schema.Column.{Column}
+use Rattle.row_codec.specs.Rows.{row_bytes}
+use Rattle.row_codec.specs.Decoding.{IsRowOf}
 use Rattle.list_algebra.specs.Bags.{Tuple}
 
 -- the number of a key: its place among the keys, or behind them where it is new
@@ -21,3 +23,9 @@ pub record KeysOf : Type 0 where
   pub columns : List Column
   pub cols : List ℕ
   pub keys : List Tuple
+
+-- these are the keys, rows of the columns at these places, and their bytes
+pub record AreKept (columns : List Column) (cols : List ℕ) (keys : List Tuple) (bytes : List (List ℕ)) : Type 0 where
+  pub within : All (λ c. c < length columns) cols
+  pub each : All (IsRowOf (columns_at columns cols)) keys
+  pub bytes_are : bytes ≡ map row_bytes keys

@@ -23,7 +23,7 @@ loop-number-preserved c =
     let each : All (IsRowOf columns) kept = subst (λ cs. All (IsRowOf cs) kept) c.loop-number.invariant.columns c.len.ensures.each in
     let agree : All (λ k. bytes_eq (row_bytes row) (row_bytes k) ≡ same row k) kept =
     All-weaker (IsRowOf columns) (λ k. bytes_eq (row_bytes row) (row_bytes k) ≡ same row k)
-    (λ k is. c.rows_by_bytes.ensures columns row k c.row-row.ensures.row_of is) kept each in
+    (λ k is. c.rows_by_bytes.ensures.same_bytes columns row k c.row-row.ensures.row_of is) kept each in
     let number : c.in_ok-number.field-0 ≡ key_number same kept row =
     c.in_ok-number.ensures.number ∙ ap (key_number bytes_eq c.loop-number.seen) c.bytes.ensures.bytes
     ∙ ap (λ ks. key_number bytes_eq ks (row_bytes row)) c.loop-number.invariant.seen ∙ number_form row_bytes same bytes_eq kept row agree in
