@@ -10,3 +10,6 @@ mod Agreeing
 mod Added
 mod Joined
 pub mod Fitting
+mod KeysNumbered
+mod KeysParts
+mod DistinctMore

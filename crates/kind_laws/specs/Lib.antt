@@ -6,4 +6,5 @@ pub mod Promises
 pub mod Runs
 pub mod Indexes
 pub mod Fitting
+pub mod Keys
 pub mod Words

@@ -11,8 +11,10 @@
 #![tactic(auto)]
 
 mod adding;
+mod distinct;
 mod evaluation;
 mod joining;
+mod keys;
 mod mapping;
 mod matching;
 mod projecting;
