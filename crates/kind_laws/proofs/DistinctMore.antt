@@ -2,11 +2,13 @@
 use Rattle.std.proofs.Common.{◌≡◌, ℕ, ◌+◌, ◌<◌, length, take, slice_get, Some, List, [], ◌∷◌, ◌++◌, append-nil, Bool, true, false, not, cond, ◌||◌, refl, sym, ap, ◌∙◌, inl, inr}
 use Rattle.std.specs.List.{filter, list_any}
 use Rattle.std.proofs.lemmas.Bool.{cases_Bool, false≢true}
-use Rattle.std.proofs.lemmas.List.{take_more}
+use Rattle.std.proofs.lemmas.List.{map_more, take_more}
 use Rattle.std.proofs.lemmas.List.Elements.{filter-append}
 use Rattle.std.proofs.lemmas.Option.{get_or_from_slice_get}
+use Rattle.tuple_schema.specs.Tuples.{part}
 use Rattle.list_algebra.specs.Bags.{Tuple, same}
-use Rattle.list_algebra.specs.Groups.{distinct}
+use Rattle.list_algebra.specs.Groups.{distinct, groups}
+use Rattle.list_algebra.specs.Keys.{parts}
 use Rattle.list_algebra.proofs.Same.{same-equal, same-itself}
 use Rattle.kind_laws.specs.Keys.{with_key}
 
@@ -77,8 +79,16 @@ distinct_more [] x = refl
 distinct_more (first ∷ rest) x =
     ap (λ ys. first ∷ filter (λ t. not (same first t)) ys) (distinct_more rest x) ∙ others_with first x (distinct rest)
 
+-- the same of one row more, and of its group
 pub distinct_next : (rows : List Tuple) (number : ℕ) (row : Tuple) → number < length rows → slice_get rows number ≡ Some row
     → distinct (take (number + 1) rows) ≡ with_key same (distinct (take number rows)) row
 distinct_next rows number row small there =
     ap distinct (take_more rows number [] small ∙ ap (λ r. take number rows ++ r ∷ []) (get_or_from_slice_get rows number row [] there))
     ∙ distinct_more (take number rows) row
+
+pub groups_next : (cols : List ℕ) (rows : List Tuple) (number : ℕ) (row : Tuple) → number < length rows → slice_get rows number ≡ Some row
+    → groups cols (take (number + 1) rows) ≡ with_key same (groups cols (take number rows)) (part row cols)
+groups_next cols rows number row small there =
+    ap distinct (map_more (λ t. part t cols) rows number [] small
+    ∙ ap (λ r. parts cols (take number rows) ++ part r cols ∷ []) (get_or_from_slice_get rows number row [] there))
+    ∙ distinct_more (parts cols (take number rows)) (part row cols)

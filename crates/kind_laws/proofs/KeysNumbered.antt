@@ -1,10 +1,11 @@
 -- Keys, their numbers, and their forms.
-use Rattle.std.proofs.Common.{◌≡◌, ℕ, ◌+◌, ◌<◌, List, [], ◌∷◌, ◌++◌, length, map, Bool, true, false, not, cond, ltb, ◌||◌, position, Option, Some, None, Result, Ok, append-nil, All, refl, sym, ap, ◌∙◌, inl, inr, arith}
+use Rattle.std.proofs.Common.{◌≡◌, ℕ, ◌+◌, ◌<◌, List, [], ◌∷◌, ◌++◌, length, get_or, slice_get, map, Bool, true, false, not, cond, ltb, ◌||◌, position, Option, Some, None, Result, Ok, append-nil, All, refl, sym, ap, ◌∙◌, inl, inr, arith}
 use Rattle.std.specs.List.{list_any, position_or_len}
 use Rattle.std.proofs.lemmas.Bool.{cases_Bool, or_parts}
 use Rattle.std.proofs.lemmas.List.{map-append}
 use Rattle.std.proofs.lemmas.List.Elements.{All-head, All-tail}
-use Rattle.std.proofs.lemmas.Option.{same_Some}
+use Rattle.std.proofs.lemmas.Option.{same_Some, slice_get-get_or}
+use Rattle.std.proofs.lemmas.List.Sums.{passes_at_first}
 use Rattle.std.proofs.lemmas.Bool.Decides.{same_from_decides}
 use Rattle.std.proofs.lemmas.Slice.Eq.{bytes_eq-Decides}
 use Rattle.std.specs.Str.{bytes_eq}
@@ -101,6 +102,25 @@ module _ {K : Type 0} (same : K → K → Bool) (ks : List K) (key : K) where
         | inl some ↦ ap (λ b. cond b ks (ks ++ key ∷ [])) some
         | inr none ↦ absurd (among (place_behind (same key) ks none))
       ]
+
+at_end : {K : Type 0} (ks : List K) (key : K) → slice_get (ks ++ key ∷ []) (length ks) ≡ Some key
+at_end [] key = refl
+at_end (k ∷ ks) key = at_end ks key
+
+-- at its number stands the key, where the test is that of equality
+pub key_there : {K : Type 0} (same : K → K → Bool) (equal : (one other : K) → same one other ≡ true → one ≡ other) (ks : List K) (key : K)
+    → slice_get (with_key same ks key) (key_number same ks key) ≡ Some key
+key_there same equal ks key =
+    elim (cases_Bool (list_any (same key) ks)) [
+      | inl some ↦
+          let among = place_among (same key) ks some in
+          let found : key ≡ get_or ks (key_number same ks key) key = equal _ _ (passes_at_first (same key) ks key among) in
+          ap (λ all. slice_get all (key_number same ks key)) (ap (λ b. cond b ks (ks ++ key ∷ [])) some)
+          ∙ slice_get-get_or ks (key_number same ks key) key among ∙ ap Some (sym found)
+      | inr none ↦
+          ap (λ all. slice_get all (key_number same ks key)) (ap (λ b. cond b ks (ks ++ key ∷ [])) none)
+          ∙ ap (slice_get (ks ++ key ∷ [])) (place_behind (same key) ks none) ∙ at_end ks key
+    ]
 
 -- rows of the same columns, each of which is read again from its bytes
 module _ (reads : (columns : List Column) (row : List Value) (rest : List ℕ) → IsRowOf columns row → row_at columns (row_bytes row ++ rest) ≡ Ok (row, rest))

@@ -1,5 +1,5 @@
 // The distinct keys of rows, each with a number.
-ghost use Rattle.std.specs.Prelude.{◌≡◌, ◌<◌, ◌++◌, [], List, length, All, IfOk, OnOk, OnErr};
+ghost use Rattle.std.specs.Prelude.{◌≡◌, ◌<◌, ◌++◌, [], List, length, slice_get, Some, All, IfOk, OnOk, OnErr};
 ghost use Rattle.std.specs.Str.{bytes_eq};
 ghost use Rattle.tuple_schema.specs.declared.schema.Column.{Column as Declared};
 ghost use Rattle.tuple_schema.specs.Words.{part};
@@ -118,6 +118,7 @@ impl<'a> Keys<'a> {
         requires { IsRowOf self.old.columns row.now }
         ensures number { IfOk result (λ number. number ≡ key_number same self.old.keys (part row.now self.old.cols)) }
         ensures keys { OnOk result (self.new.keys ≡ with_key same self.old.keys (part row.now self.old.cols)) }
+        ensures place { IfOk result (λ number. slice_get self.new.keys number ≡ Some (part row.now self.old.cols)) }
         ensures err { OnErr result (self.new.keys ≡ self.old.keys) }
         ensures columns { self.new.columns ≡ self.old.columns }
         ensures cols { self.new.cols ≡ self.old.cols }
