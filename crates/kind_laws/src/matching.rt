@@ -35,7 +35,8 @@ pub(crate) fn matching<'a>(
     &rest[..count]
 }
 
-// How many numbers stand before the first one whose row comes after the left row by the join columns.
+// How many numbers stand before the first one whose row comes after the left row by the join columns. They are walked
+// and not searched, since each of them makes a row.
 fn run_length(
     numbers: &[usize],
     rights: &Batch,
