@@ -23,3 +23,4 @@ pub mod Distincts
 pub mod SetNames
 pub mod SetColumns
 pub mod Pairs
+pub mod Unions

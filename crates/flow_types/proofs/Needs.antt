@@ -14,7 +14,7 @@ use Rattle.flow_types.specs.Trees.{inputs_below, IsWhole}
 use Rattle.flow_types.proofs.Whole.{whole_inputs}
 use Rattle.flow_types.proofs.Links.{inputs_counted}
 use Rattle.flow_types.specs.NodeTexts.{NodeText, source, text_of, text_at, inputs_needed}
-use Rattle.flow_types.proofs.Said.{Said, by_test, by_columns, by_set, by_join, by_lookup, said}
+use Rattle.flow_types.proofs.Said.{Said, by_test, by_columns, by_set, by_join, by_lookup, by_sort, by_distinct, by_union, said}
 
 is_absent : {X : Type 0} (o : Option X) → is_some o ≡ false → o ≡ None
 is_absent None absent = refl
@@ -55,6 +55,14 @@ maps_one : HasOne (codes "map")
 unfolding keys_of
 maps_one = (refl, refl, refl, refl)
 
+sorts_one : HasOne (codes "sort")
+unfolding keys_of
+sorts_one = (refl, refl, refl, refl)
+
+distincts_one : HasOne (codes "distinct")
+unfolding keys_of
+distincts_one = (refl, refl, refl, refl)
+
 -- a kind with two, left and right
 abbrev HasTwo : List ℕ → Type 0
 HasTwo kind = Has false (codes "input") kind × Has true (codes "left") kind × Has true (codes "right") kind × Has false (codes "inputs") kind
@@ -69,6 +77,17 @@ joins_two = (refl, refl, refl, refl)
 looks_up_two : HasTwo (codes "lookup")
 unfolding keys_of
 looks_up_two = (refl, refl, refl, refl)
+
+-- a kind with a list of inputs alone
+abbrev HasMany : List ℕ → Type 0
+HasMany kind = Has false (codes "input") kind × Has false (codes "left") kind × Has false (codes "right") kind
+
+has_many : (kind word : List ℕ) → kind ≡ word → HasMany word → HasMany kind
+has_many kind word is has = subst HasMany (sym is) has
+
+unites_many : HasMany (codes "union")
+unfolding keys_of
+unites_many = (refl, refl, refl)
 
 module _ (n : RawNode) (keeps : KeepsNode n) where
   -- so such a node names its input alone
@@ -87,6 +106,13 @@ module _ (n : RawNode) (keeps : KeepsNode n) where
       let right = one_of n.right (keeps.right.there ∙ has.2) in
       rw (input, inputs, append-nil, length-append, left, right) refl
 
+  names_many : HasMany n.kind → (names : List (List ℕ)) → n.inputs ≡ Some names → length (input_names n) ≡ length names
+  names_many has names at =
+      let input : n.input ≡ None = is_absent n.input (keeps.input.there ∙ has.0) in
+      let left : n.left ≡ None = is_absent n.left (keeps.left.there ∙ has.1) in
+      let right : n.right ≡ None = is_absent n.right (keeps.right.there ∙ has.2) in
+      rw (input, left, right, at) refl
+
   -- what a node says needs as many inputs as it names
   names_needed : (text : NodeText) → Said n text → length (input_names n) ≡ inputs_needed text
   names_needed text (by_test test kind at is) = rw (← is) (names_one (has_one n.kind (codes "select") kind selects_one))
@@ -94,6 +120,9 @@ module _ (n : RawNode) (keeps : KeepsNode n) where
   names_needed text (by_set texts kind at is) = rw (← is) (names_one (has_one n.kind (codes "map") kind maps_one))
   names_needed text (by_join texts kind at is) = rw (← is) (names_two (has_two n.kind (codes "join") kind joins_two))
   names_needed text (by_lookup texts kind at is) = rw (← is) (names_two (has_two n.kind (codes "lookup") kind looks_up_two))
+  names_needed text (by_sort names kind at is) = rw (← is) (names_one (has_one n.kind (codes "sort") kind sorts_one))
+  names_needed text (by_distinct kind is) = rw (← is) (names_one (has_one n.kind (codes "distinct") kind distincts_one))
+  names_needed text (by_union names kind at is) = rw (← is) (names_many (has_many n.kind (codes "union") kind unites_many) names at)
 
 pub needs_source : (flow : RawFlow) (place : ℕ) → place < length flow.sources → get_or (needs_of flow) place [] ≡ []
 needs_source flow place h =

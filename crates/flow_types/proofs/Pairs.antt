@@ -27,7 +27,7 @@ use Rattle.flow_types.proofs.Places.{least_is, least_none}
 
 -- ---- kinds
 
-same_kind : (k l : ColumnKind) → is_same_kind k l ≡ true → k ≡ l
+pub same_kind : (k l : ColumnKind) → is_same_kind k l ≡ true → k ≡ l
 same_kind kind.Int kind.Int same = refl
 same_kind kind.Int (kind.Dec q) same = absurd (cc)
 same_kind kind.Int kind.Text same = absurd (cc)

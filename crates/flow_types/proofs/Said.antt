@@ -1,9 +1,10 @@
 -- What a node says, by its kind.
-use Rattle.std.proofs.Common.{◌≡◌, ℕ, List, codes, bytes_eq, true, refl, inl, inr, Option, Some, None, option_map}
+use Rattle.std.proofs.Common.{◌≡◌, ℕ, List, codes, bytes_eq, if◌then◌else◌, true, refl, inl, inr, Option, Some, None, option_map}
 use Rattle.std.proofs.lemmas.Bool.{cases_Bool}
+use Rattle.std.proofs.lemmas.Option.{same_Some}
 use Rattle.std.proofs.lemmas.Slice.Eq.{bytes_eq-Decides}
 use Rattle.workflow_file.specs.declared.raw.RawNode.{RawNode}
-use Rattle.flow_types.specs.NodeTexts.{NodeText, select, project, mapped, joined, looked_up, text_of}
+use Rattle.flow_types.specs.NodeTexts.{NodeText, select, project, mapped, joined, looked_up, sorted, distinct, united, is_append, union_text, text_of}
 
 -- a node of a kind says the text or the texts of the kind's key
 pub data Said (n : RawNode) (text : NodeText) : Type 0 where
@@ -12,14 +13,42 @@ pub data Said (n : RawNode) (text : NodeText) : Type 0 where
   by_set : (texts : List (List ℕ)) → n.kind ≡ codes "map" → n.set ≡ Some texts → mapped texts ≡ text → Said n text
   by_join : (texts : List (List ℕ)) → n.kind ≡ codes "join" → n.on ≡ Some texts → joined texts ≡ text → Said n text
   by_lookup : (texts : List (List ℕ)) → n.kind ≡ codes "lookup" → n.on ≡ Some texts → looked_up texts ≡ text → Said n text
+  by_sort : (names : List (List ℕ)) → n.kind ≡ codes "sort" → n.by ≡ Some names → sorted names ≡ text → Said n text
+  by_distinct : n.kind ≡ codes "distinct" → distinct ≡ text → Said n text
+  by_union : (names : List (List ℕ)) → n.kind ≡ codes "union" → n.inputs ≡ Some names → united names ≡ text → Said n text
 
 made_of : {X : Type 0} (make : X → NodeText) (o : Option X) (text : NodeText) → option_map make o ≡ Some text → (x : X) × (o ≡ Some x) × (make x ≡ text)
 made_of make None text is = absurd (cc)
 made_of make (Some x) text is = (x, refl, cc)
 
+united_of : (n : RawNode) (text : NodeText) → union_text n ≡ Some text → (names : List (List ℕ)) × (n.inputs ≡ Some names) × (united names ≡ text)
+united_of n text is =
+    elim (cases_Bool (is_append n.order)) [
+      | inl append ↦ made_of united n.inputs text (rw append at is)
+      | inr other ↦ let none : None ≡ Some text = rw other at is in absurd (cc)
+    ]
+
 module _ (n : RawNode) (text : NodeText) where
   is_kind : (word : List ℕ) → bytes_eq n.kind word ≡ true → n.kind ≡ word
   is_kind word same = (bytes_eq-Decides n.kind word).0 same
+
+  said_later : (if bytes_eq n.kind (codes "sort") then option_map sorted n.by else if bytes_eq n.kind (codes "distinct") then Some distinct else if bytes_eq n.kind (codes "union") then union_text n else None) ≡ Some text
+      → Said n text
+  said_later is =
+      elim (cases_Bool (bytes_eq n.kind (codes "sort"))) [
+        | inl same ↦
+            let made = made_of sorted n.by text (rw same at is) in
+            by_sort made.0 (is_kind (codes "sort") same) made.1 made.2
+        | inr no_sort ↦ elim (cases_Bool (bytes_eq n.kind (codes "distinct"))) [
+          | inl same ↦ by_distinct (is_kind (codes "distinct") same) (same_Some distinct text (rw (no_sort, same) at is))
+          | inr no_distinct ↦ elim (cases_Bool (bytes_eq n.kind (codes "union"))) [
+            | inl same ↦
+                let made = united_of n text (rw (no_sort, no_distinct, same) at is) in
+                by_union made.0 (is_kind (codes "union") same) made.1 made.2
+            | inr no_union ↦ let none : None ≡ Some text = rw (no_sort, no_distinct, no_union) at is in absurd (cc)
+          ]
+        ]
+      ]
 
   pub said : text_of n ≡ Some text → Said n text
   said is =
@@ -43,7 +72,7 @@ module _ (n : RawNode) (text : NodeText) where
                 | inl same ↦
                     let made = made_of looked_up n.on text (rw (no_select, no_project, no_map, no_join, same) at is) in
                     by_lookup made.0 (is_kind (codes "lookup") same) made.1 made.2
-                | inr no_lookup ↦ let none : None ≡ Some text = rw (no_select, no_project, no_map, no_join, no_lookup) at is in absurd (cc)
+                | inr no_lookup ↦ said_later (rw (no_select, no_project, no_map, no_join, no_lookup) at is)
               ]
             ]
           ]

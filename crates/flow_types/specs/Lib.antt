@@ -12,6 +12,7 @@ pub mod Assigned
 pub mod Paired
 pub mod Joined
 pub mod Flows
+pub mod United
 pub mod Typed
 pub mod Linked
 pub mod Typing

@@ -1,5 +1,5 @@
 -- What holds of the nodes of a typed flow: each is over its inputs, whose columns it takes.
-use Rattle.std.specs.Prelude.{◌≡◌, ◌≤◌, ◌==◌, ℕ, List, [], ◌∷◌, length, map, count_by, IsTrue, Some, Ok, true, false, ⊤}
+use Rattle.std.specs.Prelude.{◌≡◌, ◌<◌, ◌≤◌, ◌==◌, ℕ, List, [], ◌∷◌, length, map, count_by, All, IsTrue, Some, Ok, true, false, ⊤}
 use Rattle.tuple_schema.specs.declared.schema.Column.{Column}
 use Rattle.tuple_schema.specs.Schemas.{IsSchema, are_distinct}
 use Rattle.list_algebra.specs.Trees.{Tree, Trees, EachNode, roots_of, in_order}
@@ -11,11 +11,12 @@ use Rattle.flow_types.specs.Built.{is_built_source}
 use Rattle.flow_types.specs.Taken.{Takes}
 use Rattle.flow_types.specs.Assigned.{IsAssigned}
 use Rattle.flow_types.specs.Joined.{ArePairs, join_columns, lookup_columns}
+use Rattle.flow_types.specs.United.{AllGoInto}
 use Rattle.flow_types.specs.declared.node.Source.{Source}
 use Rattle.flow_types.specs.declared.node.Kind.{Kind}
 use Rattle.flow_types.specs.declared.node.Kind.TheVariants as kind
 use Rattle.flow_types.specs.declared.node.Node.{Node}
-use Rattle.flow_types.specs.NodeTexts.{NodeText, source, select, project, mapped, joined, looked_up}
+use Rattle.flow_types.specs.NodeTexts.{NodeText, source, select, project, mapped, joined, looked_up, sorted, distinct, united}
 use Rattle.flow_types.specs.Flows.{TypedFlow, number_of, tree_of, columns_in, columns_of, ids_of}
 
 -- a source that is built at this stage: a CSV file, its rows in the truth's order
@@ -31,6 +32,9 @@ KeepsText (project texts) = (1 ≤ length texts) × (length texts ≤ 64)
 KeepsText (mapped texts) = ⊤
 KeepsText (joined texts) = ⊤
 KeepsText (looked_up texts) = ⊤
+KeepsText (sorted names) = ⊤
+KeepsText distinct = ⊤
+KeepsText (united names) = 2 ≤ length names
 
 -- a kind over inputs with these columns gives these columns
 abbrev pub IsOver : Kind → List (List Column) → List Column → Type 0
@@ -45,6 +49,9 @@ IsOver (kind.Join left right) inputs columns =
 IsOver (kind.Lookup left right) inputs columns =
     (length inputs ≡ 2) × ArePairs (columns_in inputs 0) (columns_in inputs 1) left right
     × (columns ≡ lookup_columns (columns_in inputs 0) (columns_in inputs 1) right)
+IsOver (kind.Sort by) inputs columns = (inputs ≡ columns ∷ []) × All (λ place. place < length columns) by
+IsOver kind.Distinct inputs columns = inputs ≡ columns ∷ []
+IsOver (kind.Union any) inputs columns = (any ≡ false) × (1 ≤ length inputs) × AllGoInto inputs columns
 
 -- a node over these inputs, whose columns are a schema
 pub record IsLinked (n : Node) (below : List Node) : Type 0 where

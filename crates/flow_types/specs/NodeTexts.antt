@@ -1,5 +1,5 @@
 -- What a node of a raw flow says, by its kind.
-use Rattle.std.specs.Prelude.{ℕ, ◌-◌, List, length, slice_get, codes, bytes_eq, if◌then◌else◌, Option, None, option_map, option_and_then}
+use Rattle.std.specs.Prelude.{ℕ, ◌-◌, List, length, slice_get, codes, bytes_eq, Bool, false, if◌then◌else◌, Option, Some, None, option_map, option_and_then}
 use Rattle.std.specs.Option.{option_or}
 use Rattle.workflow_file.specs.declared.raw.RawSource.{RawSource}
 use Rattle.workflow_file.specs.declared.raw.RawNode.{RawNode}
@@ -7,8 +7,9 @@ use Rattle.workflow_file.specs.declared.raw.RawFlow.{RawFlow}
 use Rattle.flow_types.specs.declared.node_text.NodeText.{NodeText as LentText}
 use Rattle.flow_types.specs.declared.node_text.NodeText.TheVariants as lent
 
--- a source, a selection by the text of its test, a projection by the texts of its columns, a map by its texts, or a
--- join or a lookup by the texts of its pairs
+-- a source, a selection by the text of its test, a projection by the texts of its columns, a map by its texts, a join
+-- or a lookup by the texts of its pairs, a sort by the names of its columns, a distinct, or a union by the names of its
+-- inputs
 pub data NodeText : Type 0 where
   source : RawSource → NodeText
   select : List ℕ → NodeText
@@ -16,6 +17,18 @@ pub data NodeText : Type 0 where
   mapped : List (List ℕ) → NodeText
   joined : List (List ℕ) → NodeText
   looked_up : List (List ℕ) → NodeText
+  sorted : List (List ℕ) → NodeText
+  distinct : NodeText
+  united : List (List ℕ) → NodeText
+
+-- the order of a union is `append`: one input comes after the other
+abbrev pub is_append : Option (List ℕ) → Bool
+is_append None = false
+is_append (Some word) = bytes_eq word (codes "append")
+
+-- what a union says, which is built where one input comes after the other
+abbrev pub union_text : RawNode → Option NodeText
+union_text n = if is_append n.order then option_map united n.inputs else None
 
 -- what a node that is no source says, where its kind is built and it has what that needs
 abbrev pub text_of : RawNode → Option NodeText
@@ -25,6 +38,9 @@ text_of n =
     else if bytes_eq n.kind (codes "map") then option_map mapped n.set
     else if bytes_eq n.kind (codes "join") then option_map joined n.on
     else if bytes_eq n.kind (codes "lookup") then option_map looked_up n.on
+    else if bytes_eq n.kind (codes "sort") then option_map sorted n.by
+    else if bytes_eq n.kind (codes "distinct") then Some distinct
+    else if bytes_eq n.kind (codes "union") then union_text n
     else None
 
 -- what the node at a place says, sources first
@@ -41,6 +57,9 @@ inputs_needed (project texts) = 1
 inputs_needed (mapped texts) = 1
 inputs_needed (joined texts) = 2
 inputs_needed (looked_up texts) = 2
+inputs_needed (sorted names) = 1
+inputs_needed distinct = 1
+inputs_needed (united names) = length names
 
 -- what is lent of a raw flow, as it is
 abbrev pub text_seen : LentText → NodeText
@@ -50,3 +69,6 @@ text_seen (lent.Project texts) = project texts.now
 text_seen (lent.Map texts) = mapped texts.now
 text_seen (lent.Join texts) = joined texts.now
 text_seen (lent.Lookup texts) = looked_up texts.now
+text_seen (lent.Sort names) = sorted names.now
+text_seen lent.Distinct = distinct
+text_seen (lent.Union names) = united names.now

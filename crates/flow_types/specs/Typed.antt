@@ -20,8 +20,9 @@ use Rattle.flow_types.specs.Expressions.{test_of}
 use Rattle.flow_types.specs.Each.{each_made}
 use Rattle.flow_types.specs.Paired.{pairs_of, lefts, rights}
 use Rattle.flow_types.specs.Joined.{join_columns, lookup_columns}
+use Rattle.flow_types.specs.United.{only_alike, united_columns}
 use Rattle.flow_types.specs.Mapped.{setting_of, columns_set, set_columns, assign_in, only_few}
-use Rattle.flow_types.specs.NodeTexts.{NodeText, source, select, project, mapped, joined, looked_up, text_at}
+use Rattle.flow_types.specs.NodeTexts.{NodeText, source, select, project, mapped, joined, looked_up, sorted, distinct, united, text_at}
 use Rattle.flow_types.specs.Graph.{names_of, id_of, fault_at, graph_of}
 
 -- the column of a name
@@ -117,6 +118,22 @@ typed_lookup texts left right = do
   output ← only_schema (lookup_columns left right (rights pairs))
   Ok (kind.Lookup (lefts pairs) (rights pairs), output)
 
+-- those of a sort of these columns: the names by which it sorts have to be there
+abbrev pub typed_sort : List (List ℕ) → List Column → Result (Kind × List Column) SchemaCause
+typed_sort names columns = do
+  _ ← no_unknown (names_in columns) names
+  Ok (kind.Sort (filter_map (place_of (names_in columns)) names), columns)
+
+-- those of a distinct of these columns
+abbrev pub typed_distinct : List Column → Result (Kind × List Column) SchemaCause
+typed_distinct columns = Ok (kind.Distinct, columns)
+
+-- those of a union of inputs with these columns, one after the other: all hold the same kinds
+abbrev pub typed_union : List (List Column) → Result (Kind × List Column) SchemaCause
+typed_union inputs = do
+  _ ← only_alike (columns_in inputs 0) inputs
+  Ok (kind.Union false, united_columns inputs)
+
 -- the kind and the columns of a node that says this, over inputs with these columns
 abbrev pub typed_text : NodeText → List (List Column) → Result (Kind × List Column) SchemaCause
 typed_text (source s) inputs = typed_source s
@@ -125,6 +142,9 @@ typed_text (project texts) inputs = typed_project texts (columns_in inputs 0)
 typed_text (mapped texts) inputs = typed_map texts (columns_in inputs 0)
 typed_text (joined texts) inputs = typed_join texts (columns_in inputs 0) (columns_in inputs 1)
 typed_text (looked_up texts) inputs = typed_lookup texts (columns_in inputs 0) (columns_in inputs 1)
+typed_text (sorted names) inputs = typed_sort names (columns_in inputs 0)
+typed_text distinct inputs = typed_distinct (columns_in inputs 0)
+typed_text (united names) inputs = typed_union inputs
 
 -- the same of what stands at a place, if something does
 abbrev pub typed_at : Option NodeText → List (List Column) → Result (Kind × List Column) SchemaCause

@@ -3,11 +3,13 @@ ghost use Rattle.std.specs.Prelude.{◌≡◌, is_some};
 ghost use Rattle.std.specs.List.{list_all};
 ghost use Rattle.flow_types.specs.Words.{is_built, is_built_node, is_built_source, is_csv, text_of};
 
+use crate::node_text::is_append;
 use tuple_schema::Text;
 use workflow_file::{RawFlow, RawNode, RawSource};
 
 /// Whether the flow is one that can be typed at this stage: a table without a key, sources of promise `seq` in CSV
-/// files, and selections, projections, maps, joins and lookups, which declare nothing.
+/// files, and selections, projections, maps, joins, lookups, sorts, distincts and unions that put one input behind the
+/// other, which declare nothing.
 #[tactic(auto, unfolding(crate::specs::Built::is_built))]
 pub fn is_built(raw: &RawFlow) -> bool
     ensures { result ≡ is_built raw.now }
@@ -59,6 +61,9 @@ fn has_text(node: &RawNode) -> bool
         "project" => node.columns.is_some(),
         "map" => node.set.is_some(),
         "join" | "lookup" => node.on.is_some(),
+        "sort" => node.by.is_some(),
+        "distinct" => true,
+        "union" => is_append(&node.order) && node.inputs.is_some(),
         _ => false,
     }
 }

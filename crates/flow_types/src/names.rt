@@ -1,5 +1,5 @@
 // Names in lists: which comes twice, and which isn't there.
-ghost use Rattle.std.specs.Prelude.{◌≡◌, ◌<◌, map, length, bytes_eq, position, filter_map, IfOk, IfSome};
+ghost use Rattle.std.specs.Prelude.{◌≡◌, ◌<◌, map, length, bytes_eq, position, filter_map, All, IfOk, IfSome};
 ghost use Rattle.std.specs.List.{list_any};
 ghost use Rattle.tuple_schema.specs.Words.{Gives, GivesView, is_among};
 ghost use Rattle.flow_types.specs.Words.{names_in, again, is_again, no_double, no_unknown, cols_in, cols_if, place_of};
@@ -94,8 +94,8 @@ pub fn no_double(names: &[&Text]) -> Result<(), Stop<SchemaCause>>
     Err(Stop::Fault(SchemaCause::DoubleColumn { column }))
 }
 
-// The places of the names wanted, or the first that isn't there.
-fn places_of(
+/// The places of the names wanted, or the first that isn't there.
+pub fn places_of(
     alloc: Global,
     names: &[&Text],
     wanted: &[&Text],
@@ -104,6 +104,7 @@ fn places_of(
         (map (λ n. n.now) wanted.now)) }
     ensures places { IfOk result (λ v. v.items ≡ filter_map (place_of (map (λ n. n.now) names.now))
         (map (λ n. n.now) wanted.now)) }
+    ensures within { IfOk result (λ v. All (λ place. place < length names.now) v.items) }
 {
     let mut places = Vec::new(alloc);
     for name in wanted {

@@ -104,6 +104,12 @@ pub enum Kind {
     Join { left: Cols, right: Cols },
     /// The same, and a left row with which none agrees comes once, with Null behind it.
     Lookup { left: Cols, right: Cols },
+    /// Gives the rows ascending by these columns, then by the others.
+    Sort { by: Cols },
+    /// Gives the first of each equal row.
+    Distinct,
+    /// Gives the rows of its inputs, one input after the other; with `any`, in some order that leaves each input's.
+    Union { any: bool },
 }
 
 /// A node of a flow, with the columns of what it gives.

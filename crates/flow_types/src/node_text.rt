@@ -1,12 +1,13 @@
 // What a node of a raw flow says, by its kind.
 ghost use Rattle.std.specs.Prelude.{◌≡◌, ◌<◌, ◌+◌, Some, length, option_map, IsTrue};
-ghost use Rattle.flow_types.specs.Words.{is_built, name_at, names_of, text_of, text_at, text_seen};
+ghost use Rattle.flow_types.specs.Words.{is_append, is_built, name_at, names_of, text_of, text_at, text_seen, union_text};
 
 use tuple_schema::Text;
 use workflow_file::{RawFlow, RawNode, RawSource};
 
-/// A source, a selection by the text of its test, a projection by the texts of its columns, a map by its texts, or a
-/// join or a lookup by the texts of its pairs.
+/// A source, a selection by the text of its test, a projection by the texts of its columns, a map by its texts, a join
+/// or a lookup by the texts of its pairs, a sort by the names of its columns, a distinct, or a union by the names of its
+/// inputs.
 #[derive(Clone, Copy)]
 pub enum NodeText<'r> {
     Source(&'r RawSource),
@@ -15,6 +16,9 @@ pub enum NodeText<'r> {
     Map(&'r [Text]),
     Join(&'r [Text]),
     Lookup(&'r [Text]),
+    Sort(&'r [Text]),
+    Distinct,
+    Union(&'r [Text]),
 }
 
 /// What the node at a place says, sources first.
@@ -45,7 +49,30 @@ fn text_of(node: &RawNode) -> Option<NodeText<'_>>
         "map" => Some(NodeText::Map(node.set.as_ref()?.items())),
         "join" => Some(NodeText::Join(node.on.as_ref()?.items())),
         "lookup" => Some(NodeText::Lookup(node.on.as_ref()?.items())),
+        "sort" => Some(NodeText::Sort(node.by.as_ref()?.items())),
+        "distinct" => Some(NodeText::Distinct),
+        "union" => union_text(node),
         _ => None,
+    }
+}
+
+// What a union says, which is built where one input comes after the other.
+fn union_text(node: &RawNode) -> Option<NodeText<'_>>
+    ensures { option_map text_seen result ≡ union_text node.now }
+{
+    if !is_append(&node.order) {
+        return None;
+    }
+    Some(NodeText::Union(node.inputs.as_ref()?.items()))
+}
+
+/// Whether the order is that of inputs of which one comes after the other.
+pub fn is_append(order: &Option<Text>) -> bool
+    ensures { result ≡ is_append order.now }
+{
+    match order {
+        None => false,
+        Some(word) => word.as_str() == "append",
     }
 }
 

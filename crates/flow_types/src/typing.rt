@@ -19,7 +19,9 @@ use crate::mapped::type_map;
 use crate::names::{cols_if, names_in, no_double, place_of};
 use crate::node::{Cols, Inputs, Kind, Node, Source};
 use crate::node_text::{NodeText, name_at, text_at};
+use crate::ordered::{type_distinct, type_sort};
 use crate::typed::Typed;
+use crate::united::type_union;
 use std::alloc::Global;
 use tuple_schema::{Column, Memory, Names, Schema, Stop, Text, rest_of};
 use workflow_file::{RawFlow, RawSource};
@@ -156,6 +158,9 @@ fn type_text(
         NodeText::Map(texts) => type_map(alloc, texts, &inputs[0].schema),
         NodeText::Join(texts) => type_join(alloc, texts, &inputs[0].schema, &inputs[1].schema),
         NodeText::Lookup(texts) => type_lookup(alloc, texts, &inputs[0].schema, &inputs[1].schema),
+        NodeText::Sort(names) => type_sort(alloc, names, &inputs[0].schema),
+        NodeText::Distinct => type_distinct(&inputs[0].schema),
+        NodeText::Union(_) => type_union(alloc, inputs),
     }
 }
 
