@@ -3,5 +3,7 @@ pub mod Counted
 pub mod Carried
 pub mod Clustered
 pub mod Instances
+pub mod Comparing
+pub mod Sorted
 pub mod Trees
 mod TreeExamples

@@ -1,0 +1,14 @@
+use Rattle.list_algebra.proofs.Sorted.{ascending_moves, ascending_sorted, ascending_stable, ascending_only}
+use Rattle.list_algebra.proofs.laws.sort_laws.Goals as goal
+
+pub returns-clause-permutation : goal.returns-clause-permutation
+returns-clause-permutation c = ascending_moves
+
+pub returns-clause-sorted : goal.returns-clause-sorted
+returns-clause-sorted c = ascending_sorted
+
+pub returns-clause-stable : goal.returns-clause-stable
+returns-clause-stable c = ascending_stable
+
+pub returns-clause-only : goal.returns-clause-only
+returns-clause-only c = ascending_only
