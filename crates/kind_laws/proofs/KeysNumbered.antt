@@ -1,5 +1,5 @@
 -- Keys, their numbers, and their forms.
-use Rattle.std.proofs.Common.{◌≡◌, ℕ, ◌+◌, ◌<◌, List, [], ◌∷◌, ◌++◌, length, get_or, slice_get, map, Bool, true, false, not, cond, ltb, ◌||◌, position, Option, Some, None, Result, Ok, append-nil, All, refl, sym, ap, ◌∙◌, inl, inr, arith}
+use Rattle.std.proofs.Common.{◌≡◌, ℕ, ◌+◌, ◌<◌, List, [], ◌∷◌, ◌++◌, length, get_or, slice_get, map, Bool, true, false, not, cond, ltb, ◌||◌, position, Some, None, Result, Ok, append-nil, All, refl, sym, ap, ◌∙◌, inl, inr, arith}
 use Rattle.std.specs.List.{list_any, position_or_len}
 use Rattle.std.proofs.lemmas.Bool.{cases_Bool, or_parts}
 use Rattle.std.proofs.lemmas.List.{map-append}
@@ -126,17 +126,17 @@ key_there same equal ks key =
 module _ (reads : (columns : List Column) (row : List Value) (rest : List ℕ) → IsRowOf columns row → row_at columns (row_bytes row ++ rest) ≡ Ok (row, rest))
     (columns : List Column) (one other : List Value) (is : IsRowOf columns one) (is_other : IsRowOf columns other)
   where
-  rows_equal : row_bytes one ≡ row_bytes other → one ≡ other
-  rows_equal bytes =
-      let both : read_as (one, []) ≡ read_as (other, []) =
-      sym (reads columns one [] is) ∙ ap (λ bs. row_at columns (bs ++ [])) bytes ∙ reads columns other [] is_other in
-      row_read (one, []) (other, []) both
+    rows_equal : row_bytes one ≡ row_bytes other → one ≡ other
+    rows_equal bytes =
+        let both : read_as (one, []) ≡ read_as (other, []) =
+        sym (reads columns one [] is) ∙ ap (λ bs. row_at columns (bs ++ [])) bytes ∙ reads columns other [] is_other in
+        row_read (one, []) (other, []) both
 
-  -- have the same bytes exactly where they are equal
-  pub same_bytes : bytes_eq (row_bytes one) (row_bytes other) ≡ same one other
-  same_bytes =
-      let by_bytes = bytes_eq-Decides (row_bytes one) (row_bytes other) in
-      same_from_decides _ _ (λ h. rows_equal (by_bytes.0 h), λ e. by_bytes.1 (ap row_bytes e)) (same-Decides one other)
+    -- have the same bytes exactly where they are equal
+    pub same_bytes : bytes_eq (row_bytes one) (row_bytes other) ≡ same one other
+    same_bytes =
+        let by_bytes = bytes_eq-Decides (row_bytes one) (row_bytes other) in
+        same_from_decides _ _ (λ h. rows_equal (by_bytes.0 h), λ e. by_bytes.1 (ap row_bytes e)) (same-Decides one other)
 
 -- a row is read again from its bytes alone
 pub read_again : ((columns : List Column) (row : List Value) (rest : List ℕ) → IsRowOf columns row → row_at columns (row_bytes row ++ rest) ≡ Ok (row, rest))

@@ -4,7 +4,6 @@ use Rattle.std.specs.Str.{bytes_eq}
 use Rattle.std.specs.List.{cons_option, list_any}
 use Rattle.std.proofs.lemmas.List.Elements.{All-nil, All-cons, All-head, All-tail, All-get_or, All-push, All-weaker}
 use Rattle.std.proofs.lemmas.Option.{slice_get_cases, slice_get_within, get_or_from_slice_get}
-use Rattle.tuple_schema.specs.declared.value.Value.{Value}
 use Rattle.tuple_schema.specs.declared.value.Value.TheVariants as value
 use Rattle.tuple_schema.specs.declared.schema.Column.{Column}
 use Rattle.tuple_schema.specs.Tuples.{part}
@@ -58,41 +57,41 @@ module _ (same_bytes : (columns : List Column) (one other : Tuple) → IsRowOf c
     (columns : List Column) (cols : List ℕ) (seen : List (List ℕ)) (kept : AreKept columns cols (map (row_in (columns_at columns cols)) seen) seen)
     (row : Tuple) (is : IsRowOf columns row)
   where
-  abbrev read : List ℕ → Tuple
-  read = row_in (columns_at columns cols)
+    abbrev read : List ℕ → Tuple
+    read = row_in (columns_at columns cols)
 
-  is_key : IsRowOf (columns_at columns cols) (part row cols)
-  is_key = part_of columns row cols kept.within is
+    is_key : IsRowOf (columns_at columns cols) (part row cols)
+    is_key = part_of columns row cols kept.within is
 
-  agree : All (λ key. bytes_eq (row_bytes (part row cols)) (row_bytes key) ≡ same (part row cols) key) (map read seen)
-  agree =
-      All-weaker (IsRowOf (columns_at columns cols)) (λ key. bytes_eq (row_bytes (part row cols)) (row_bytes key) ≡ same (part row cols) key)
-      (λ key one. same_bytes (columns_at columns cols) (part row cols) key is_key one) (map read seen) kept.each
+    agree : All (λ key. bytes_eq (row_bytes (part row cols)) (row_bytes key) ≡ same (part row cols) key) (map read seen)
+    agree =
+        All-weaker (IsRowOf (columns_at columns cols)) (λ key. bytes_eq (row_bytes (part row cols)) (row_bytes key) ≡ same (part row cols) key)
+        (λ key one. same_bytes (columns_at columns cols) (part row cols) key is_key one) (map read seen) kept.each
 
-  -- the number of the row's key among the bytes is that among the keys
-  pub number_now : key_number bytes_eq seen (row_bytes (part row cols)) ≡ key_number same (map read seen) (part row cols)
-  number_now =
-      ap (λ bs. key_number bytes_eq bs (row_bytes (part row cols))) kept.bytes_are
-      ∙ number_form row_bytes same bytes_eq (map read seen) (part row cols) agree
+    -- the number of the row's key among the bytes is that among the keys
+    pub number_now : key_number bytes_eq seen (row_bytes (part row cols)) ≡ key_number same (map read seen) (part row cols)
+    number_now =
+        ap (λ bs. key_number bytes_eq bs (row_bytes (part row cols))) kept.bytes_are
+        ∙ number_form row_bytes same bytes_eq (map read seen) (part row cols) agree
 
-  each_now : All (IsRowOf (columns_at columns cols)) (with_key same (map read seen) (part row cols))
-  each_now = all_chosen (IsRowOf (columns_at columns cols)) (list_any (same (part row cols)) (map read seen)) (map read seen) (part row cols) kept.each is_key
+    each_now : All (IsRowOf (columns_at columns cols)) (with_key same (map read seen) (part row cols))
+    each_now = all_chosen (IsRowOf (columns_at columns cols)) (list_any (same (part row cols)) (map read seen)) (map read seen) (part row cols) kept.each is_key
 
-  bytes_now : with_key bytes_eq seen (row_bytes (part row cols)) ≡ map row_bytes (with_key same (map read seen) (part row cols))
-  bytes_now =
-      ap (λ bs. with_key bytes_eq bs (row_bytes (part row cols))) kept.bytes_are
-      ∙ with_form row_bytes same bytes_eq (map read seen) (part row cols) agree
+    bytes_now : with_key bytes_eq seen (row_bytes (part row cols)) ≡ map row_bytes (with_key same (map read seen) (part row cols))
+    bytes_now =
+        ap (λ bs. with_key bytes_eq bs (row_bytes (part row cols))) kept.bytes_are
+        ∙ with_form row_bytes same bytes_eq (map read seen) (part row cols) agree
 
-  -- with its bytes among the bytes it is among the keys
-  pub keys_now : (now : List (List ℕ)) → now ≡ with_key bytes_eq seen (row_bytes (part row cols)) → map read now ≡ with_key same (map read seen) (part row cols)
-  keys_now now grown =
-      ap (map read) (grown ∙ bytes_now)
-      ∙ read_all read (with_key same (map read seen) (part row cols))
-      (All-weaker (IsRowOf (columns_at columns cols)) (λ key. read (row_bytes key) ≡ key) (read_again (columns_at columns cols)) (with_key same (map read seen) (part row cols)) each_now)
+    -- with its bytes among the bytes it is among the keys
+    pub keys_now : (now : List (List ℕ)) → now ≡ with_key bytes_eq seen (row_bytes (part row cols)) → map read now ≡ with_key same (map read seen) (part row cols)
+    keys_now now grown =
+        ap (map read) (grown ∙ bytes_now)
+        ∙ read_all read (with_key same (map read seen) (part row cols))
+        (All-weaker (IsRowOf (columns_at columns cols)) (λ key. read (row_bytes key) ≡ key) (read_again (columns_at columns cols)) (with_key same (map read seen) (part row cols)) each_now)
 
-  pub kept_now : (now : List (List ℕ)) → now ≡ with_key bytes_eq seen (row_bytes (part row cols)) → AreKept columns cols (map read now) now
-  kept_now now grown = record {
-    within = kept.within;
-    each = subst (All (IsRowOf (columns_at columns cols))) (sym (keys_now now grown)) each_now;
-    bytes_are = grown ∙ bytes_now ∙ ap (map row_bytes) (sym (keys_now now grown));
-  }
+    pub kept_now : (now : List (List ℕ)) → now ≡ with_key bytes_eq seen (row_bytes (part row cols)) → AreKept columns cols (map read now) now
+    kept_now now grown = record {
+      within = kept.within;
+      each = subst (All (IsRowOf (columns_at columns cols))) (sym (keys_now now grown)) each_now;
+      bytes_are = grown ∙ bytes_now ∙ ap (map row_bytes) (sym (keys_now now grown));
+    }

@@ -1,7 +1,6 @@
-use Rattle.std.proofs.Common.{◌≡◌, ◌+◌, ◌<◌, ◌++◌, ◌∷◌, [], List, length, map, take, All, sym, ap, subst, ◌∙◌, arith}
+use Rattle.std.proofs.Common.{◌≡◌, ◌+◌, ◌<◌, length, map, take, All, sym, ap, subst, ◌∙◌, arith}
 use Rattle.std.specs.Str.{bytes_eq}
 use Rattle.std.proofs.lemmas.List.Elements.{All-weaker}
-use Rattle.tuple_schema.specs.declared.value.Value.{Value}
 use Rattle.row_codec.specs.Rows.{row_bytes}
 use Rattle.row_codec.specs.Decoding.{IsRowOf}
 use Rattle.row_batch.specs.Packing.{BatchOf}

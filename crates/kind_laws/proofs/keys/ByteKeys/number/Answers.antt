@@ -1,4 +1,4 @@
-use Rattle.std.proofs.Common.{◌≡◌, List, map, cond, ◌++◌, ◌∷◌, [], refl, sym, ap, ◌∙◌}
+use Rattle.std.proofs.Common.{map, cond, ◌++◌, ◌∷◌, [], refl, sym, ap, ◌∙◌}
 use Rattle.std.specs.Str.{bytes_eq}
 use Rattle.kind_laws.specs.Keys.{with_key}
 use Rattle.kind_laws.proofs.KeysNumbered.{any_form, place_form, place_found, place_behind, with_form}
