@@ -76,11 +76,7 @@ fn is_same_kind(one: &Column, other: &Column) -> bool
 }
 
 // The columns of the first input, each nullable where that of any input is.
-fn united_columns(
-    alloc: Global,
-    first: &[Column],
-    inputs: &[&Node],
-) -> Result<Vec<Column>, Memory>
+fn united_columns(alloc: Global, first: &[Column], inputs: &[&Node]) -> Result<Vec<Column>, Memory>
     ensures { IfOk result (λ v. v.items ≡ united_from (columns_of (map (λ n. n.now) inputs.now)) 0 first.now) }
 {
     let mut columns = Vec::new(alloc);
