@@ -1,5 +1,5 @@
 -- What a node says, by its kind.
-use Rattle.std.proofs.Common.{◌≡◌, ℕ, List, codes, bytes_eq, if◌then◌else◌, true, refl, inl, inr, Option, Some, None, option_map}
+use Rattle.std.proofs.Common.{◌≡◌, ◌≢◌, ◌∙◌, ℕ, List, codes, bytes_eq, if◌then◌else◌, true, false, refl, inl, inr, Option, Some, None, option_map}
 use Rattle.std.proofs.lemmas.Bool.{cases_Bool}
 use Rattle.std.proofs.lemmas.Option.{same_Some}
 use Rattle.std.proofs.lemmas.Slice.Eq.{bytes_eq-Decides}
@@ -78,3 +78,20 @@ module _ (n : RawNode) (text : NodeText) where
           ]
         ]
       ]
+
+no_word : (kind word : List ℕ) → kind ≢ word → bytes_eq kind word ≡ false
+no_word kind word other =
+    elim (cases_Bool (bytes_eq kind word)) [
+      | inl same ↦ absurd (other ((bytes_eq-Decides kind word).0 same))
+      | inr differs ↦ differs
+    ]
+
+module _ (n : RawNode) (kind : List ℕ) (is : kind ≡ n.kind) where
+  is_no : (word : List ℕ) → kind ≢ word → bytes_eq n.kind word ≡ false
+  is_no word other = no_word n.kind word (λ same. other (is ∙ same))
+
+  -- a node of no kind that is built says nothing
+  pub nothing_said : kind ≢ codes "select" → kind ≢ codes "project" → kind ≢ codes "map" → kind ≢ codes "join" → kind ≢ codes "lookup"
+      → kind ≢ codes "sort" → kind ≢ codes "distinct" → kind ≢ codes "union" → text_of n ≡ None
+  nothing_said a b c d e f g h =
+      rw (is_no _ a, is_no _ b, is_no _ c, is_no _ d, is_no _ e, is_no _ f, is_no _ g, is_no _ h) refl

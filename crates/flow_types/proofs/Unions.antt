@@ -1,16 +1,16 @@
 -- Columns of inputs that hold the same kinds, and the columns of their union.
-use Rattle.std.proofs.Common.{◌≡◌, ◌∙◌, ℕ, zero, suc, ◌+◌, ◌<◌, ◌≤◌, List, [], ◌∷◌, ◌++◌, map, take, get_or, length, slice_get, Bool, true, false, ◌&&◌, All, refl, sym, ap, subst, Option, Some, None, arith}
-use Rattle.std.specs.List.{list_all, list_any}
+use Rattle.std.proofs.Common.{◌≡◌, ◌∙◌, ℕ, zero, suc, ◌+◌, ◌<◌, List, [], ◌∷◌, ◌++◌, map, take, get_or, length, slice_get, Bool, true, false, ◌&&◌, All, refl, sym, ap, subst, Option, Some, None, arith}
+use Rattle.std.specs.List.{list_all}
 use Rattle.std.proofs.lemmas.Bool.{and_parts}
 use Rattle.std.proofs.lemmas.List.{length-map}
 use Rattle.std.proofs.lemmas.List.Folds.{list_any_at}
 use Rattle.std.proofs.lemmas.List.Elements.{All-nil, All-cons, All-head, All-tail}
-use Rattle.std.proofs.lemmas.Option.{slice_get_within, slice_get-get_or}
+use Rattle.std.proofs.lemmas.Option.{slice_get_within}
 use Rattle.tuple_schema.specs.declared.schema.Column.{Column}
 use Rattle.tuple_schema.specs.Schemas.{IsSchema, HasScale, are_distinct}
 use Rattle.expr_lang.specs.Kinds.{is_same_kind}
 use Rattle.flow_types.specs.Names.{names_in}
-use Rattle.flow_types.specs.United.{are_alike, may_be_null, any_nullable, united_column, united_from, GoesInto, AllGoInto}
+use Rattle.flow_types.specs.United.{are_alike, may_be_null, any_nullable, united_column, united_from, AllGoInto}
 use Rattle.flow_types.proofs.KeptTexts.{all_pass}
 use Rattle.flow_types.proofs.Pairs.{same_kind}
 

@@ -1,8 +1,8 @@
-use Rattle.std.proofs.Common.{map, refl, sym, ap, ◌∙◌, subst}
+use Rattle.std.proofs.Common.{map, refl, sym, ◌∙◌, subst}
 use Rattle.std.proofs.lemmas.List.{length-map}
 use Rattle.tuple_schema.specs.Schemas.{IsSchema}
 use Rattle.flow_types.specs.Flows.{columns_of}
-use Rattle.flow_types.specs.United.{united_from, AllGoInto}
+use Rattle.flow_types.specs.United.{AllGoInto}
 use Rattle.flow_types.proofs.Unions.{united_schema, all_go}
 use Rattle.flow_types.proofs.united.type_union.Goals as goal
 
