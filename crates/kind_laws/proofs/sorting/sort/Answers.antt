@@ -12,4 +12,4 @@ in_order-requires c =
     let columns = ap length (c.columns.ensures.same ∙ c.schema.ensures) in
     let cols : c.deref.result.now ≡ by ++ others count by =
     c.deref.ensures.value ∙ c.in_ok-cols.ensures ∙ ap (λ n. by ++ others n by) columns in
-    All-same (λ place. place < count) _ _ cols (All-append (λ place. place < count) by (others count by) c.requires (others_within count by))
+    All-same (λ place. place < count) _ _ cols (All-append (λ place. place < count) by (others count by) c.requires.within (others_within count by))
