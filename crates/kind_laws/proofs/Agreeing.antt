@@ -12,9 +12,10 @@ use Rattle.tuple_schema.specs.contracts.value.ValuePartialEq.TheImpl as value_eq
 use Rattle.tuple_schema.specs.contracts.value.ValueOrd.TheImpl.Laws as value_ord_laws
 use Rattle.tuple_schema.specs.Tuples.{part}
 use Rattle.list_algebra.specs.Bags.{Tuple, same, same_value}
+use Rattle.list_algebra.specs.Comparing.{compare_tuples, compare_values}
 use Rattle.list_algebra.specs.Joins.{agree, below, is_given, matches}
 use Rattle.list_algebra.proofs.Same.{same-equal}
-use Rattle.kind_laws.specs.Indexes.{IsIndex, compare_keys, compare_tuples, compare_values, given_rows, key_at, row_at}
+use Rattle.kind_laws.specs.Indexes.{IsIndex, compare_keys, given_rows, key_at, row_at}
 use Rattle.kind_laws.proofs.Keyed.{key_within}
 use Rattle.kind_laws.proofs.Numbered.{All-below, filter-filter, filter_alike, filter_numbers}
 use Rattle.kind_laws.proofs.Runs.{stable_level}

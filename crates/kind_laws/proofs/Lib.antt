@@ -9,6 +9,7 @@ mod Keyed
 mod Agreeing
 mod Added
 mod Joined
+mod SortedRows
 pub mod Fitting
 mod KeysNumbered
 mod KeysParts

@@ -10,6 +10,10 @@ below_more n =
     let e : suc n ≡ n + 1 = omega arith in
     subst (λ m. below m ≡ below n ++ n ∷ []) e refl
 
+pub below_none : below 0 ≡ []
+unfolding below
+below_none = refl
+
 -- the numbers below n are below n
 pub All-below : (n : ℕ) → All (λ m. m < n) (below n)
 unfolding below

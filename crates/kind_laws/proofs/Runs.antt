@@ -50,7 +50,7 @@ filter_not_any p (x ∷ xs) h =
     ∙ filter_not_any p xs (none_tail (p x) (list_any p xs) h)
 
 -- what ties with something that is level with k is level with k
-tied_level : (r : Ordering) → (not (is_lt (ordering_reverse r)) && not (is_lt r)) ≡ is_eq r
+pub tied_level : (r : Ordering) → (not (is_lt (ordering_reverse r)) && not (is_lt r)) ≡ is_eq r
 tied_level Less = refl
 tied_level Equal = refl
 tied_level Greater = refl

@@ -2,25 +2,16 @@
 use Rattle.std.specs.Prelude.{ℕ, List, [], get_or, length, slice_get, ◌++◌, Option, option_map, Bool}
 use Rattle.std.specs.List.{filter, list_all}
 use Rattle.std.specs.List.Sorted.{IsPermutation, IsSortedBy, IsStableBy}
-use Rattle.std.specs.Cmp.Lexicographic.{slice_cmp}
 use Rattle.std.specs.Option.{option_cmp}
 use Rattle.std.specs.Ordering.{is_lt}
 use Rattle.std.specs.declared.cmp.Ordering.{Ordering}
-use Rattle.tuple_schema.specs.contracts.value.ValueOrd.TheImpl as value_ord
 use Rattle.tuple_schema.specs.declared.value.Value.{Value}
 use Rattle.tuple_schema.specs.Schemas.{Fits}
 use Rattle.tuple_schema.specs.declared.schema.Column.{Column}
 use Rattle.tuple_schema.specs.Tuples.{part}
 use Rattle.list_algebra.specs.Bags.{Tuple}
+use Rattle.list_algebra.specs.Comparing.{compare_tuples}
 use Rattle.list_algebra.specs.Joins.{below, is_given, together}
-
--- two values in the order of values
-abbrev pub compare_values : Value → Value → Ordering
-compare_values = value_ord.ghosts.cmp
-
--- two tuples in the order of their values from the left
-abbrev pub compare_tuples : Tuple → Tuple → Ordering
-compare_tuples = slice_cmp compare_values
 
 -- the row of a number
 abbrev pub row_at : List Tuple → ℕ → Tuple

@@ -7,6 +7,7 @@ ghost use Rattle.kind_laws.specs.Words.{PairsFit, row_at};
 
 use crate::adding::{add_alone, add_pairs};
 use crate::matching::matching;
+use crate::others::others;
 use crate::sorted::index_of;
 use row_batch::{Batch, BatchBuilder, RowView};
 use std::alloc::Global;
@@ -88,17 +89,4 @@ fn add_found(
     } else {
         add_pairs(left, rights, numbers, rest, made)
     }
-}
-
-// The places of so many columns that are not among these.
-fn others(alloc: Global, count: usize, cols: &[usize]) -> Result<Vec<usize>, Memory>
-    ensures { IfOk result (λ places. places.items ≡ others count cols.now) }
-{
-    let mut places = Vec::new(alloc);
-    for place in 0..count {
-        if !cols.contains(&place) {
-            places.push(place)?;
-        }
-    }
-    Ok(places)
 }

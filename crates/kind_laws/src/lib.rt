@@ -17,9 +17,11 @@ mod joining;
 mod keys;
 mod mapping;
 mod matching;
+mod others;
 mod projecting;
 mod selecting;
 mod sorted;
+mod sorting;
 mod transform;
 mod uniting;
 

@@ -1,10 +1,11 @@
-// The right rows of a join in the order of their join columns, and the search for those that agree with a left row.
-ghost use Rattle.std.specs.Prelude.{◌≡◌, ◌<◌, not, length, All, IfOk};
+// Rows in the order of given columns: the right rows of a join, and all rows.
+ghost use Rattle.std.specs.Prelude.{◌≡◌, ◌<◌, not, length, map, All, IfOk};
 ghost use Rattle.std.specs.List.{list_all};
 ghost use Rattle.tuple_schema.specs.Words.{lent, part};
-ghost use Rattle.list_algebra.specs.Words.{is_given};
-ghost use Rattle.kind_laws.specs.Words.{IsIndex, compare_keys, compare_tuples, compare_values, given_rows, key_at};
+ghost use Rattle.list_algebra.specs.Words.{ascending, below, is_given};
+ghost use Rattle.kind_laws.specs.Words.{IsIndex, compare_keys, compare_tuples, compare_values, given_rows, key_at, row_at};
 
+use list_algebra::sort_laws;
 use row_batch::{Batch, RowView};
 use std::alloc::Global;
 use std::cmp::Ordering;
@@ -18,6 +19,29 @@ pub(crate) fn index_of(alloc: Global, rows: &Batch, cols: &[usize]) -> Result<Ve
 {
     let mut numbers = given_rows(alloc, rows, cols)?;
     numbers.sort_by(|one, other| compare_rows(rows, cols, *one, *other))?;
+    Ok(numbers)
+}
+
+/// The numbers of all rows, in the order of these columns. Rows that have the same values there stay in their order.
+pub(crate) fn in_order(alloc: Global, rows: &Batch, cols: &[usize]) -> Result<Vec<usize>, Memory>
+    requires { All (λ c. c < length rows.now.columns) cols.now }
+    ensures order { IfOk result (λ numbers. map (row_at rows.now.rows) numbers.items ≡ ascending cols.now rows.now.rows) }
+    ensures within { IfOk result (λ numbers. All (λ n. n < length rows.now.rows) numbers.items) }
+{
+    sort_laws();
+    let mut numbers = all_numbers(alloc, rows.len())?;
+    numbers.sort_by(|one, other| compare_rows(rows, cols, *one, *other))?;
+    Ok(numbers)
+}
+
+// The numbers below this one, ascending.
+fn all_numbers(alloc: Global, count: usize) -> Result<Vec<usize>, Memory>
+    ensures { IfOk result (λ numbers. numbers.items ≡ below count) }
+{
+    let mut numbers = Vec::new(alloc);
+    for number in 0..count {
+        numbers.push(number)?;
+    }
     Ok(numbers)
 }
 

@@ -1,6 +1,6 @@
 use Rattle.std.proofs.Common.{◌≡◌, drop}
 use Rattle.tuple_schema.specs.Tuples.{part}
-use Rattle.kind_laws.specs.Indexes.{compare_tuples}
+use Rattle.list_algebra.specs.Comparing.{compare_tuples}
 use Rattle.kind_laws.proofs.sorted.compare_parts.Given as goal
 
 abbrev pub invariant-loop-i : goal.invariant-loop-i

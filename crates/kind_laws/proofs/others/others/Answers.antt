@@ -1,8 +1,8 @@
 use Rattle.std.proofs.Common.{◌≡◌, ◌∙◌, ◌++◌, [], ◌∷◌, ℕ, Bool, not, ◌==◌, Vec, Global, sym, ap}
 use Rattle.std.specs.List.{list_any}
 use Rattle.kind_laws.proofs.Numbered.{no_numbers, number_kept, number_left}
-use Rattle.kind_laws.proofs.joining.others.Goals as goal
-use Rattle.kind_laws.proofs.joining.others.Goals.{then-not-contains+in_ok-push, else-not-contains}
+use Rattle.kind_laws.proofs.others.others.Goals as goal
+use Rattle.kind_laws.proofs.others.others.Goals.{then-not-contains+in_ok-push, else-not-contains}
 
 pub loop-place-init : goal.loop-place-init
 loop-place-init c = c.new-places.ensures.items ∙ sym (no_numbers _)
