@@ -1,5 +1,5 @@
 -- Tuples that fit columns fit others of the same kinds, which may be Null wherever the first ones may.
-use Rattle.std.proofs.Common.{◌≡◌, ℕ, suc, List, [], ◌∷◌, length, map, Bool, true, false, ◌&&◌, Some, slice_get, refl, ap, subst, arith}
+use Rattle.std.proofs.Common.{◌≡◌, ◌∙◌, ℕ, suc, List, [], ◌∷◌, length, map, Bool, true, false, ◌&&◌, Some, slice_get, get_or, refl, ap, sym, subst, arith}
 use Rattle.tuple_schema.specs.declared.value.Value.{Value}
 use Rattle.tuple_schema.specs.declared.value.Value.TheVariants as value
 use Rattle.tuple_schema.specs.declared.schema.Column.{Column}
@@ -7,6 +7,8 @@ use Rattle.tuple_schema.specs.declared.schema.ColumnKind.{ColumnKind}
 use Rattle.tuple_schema.specs.declared.schema.ColumnKind.TheVariants as kind
 use Rattle.tuple_schema.specs.Schemas.{Fits, fits, is_of}
 use Rattle.list_algebra.specs.Bags.{Tuple}
+use Rattle.flow_types.specs.United.{AllGoInto, GoesInto, is_nullable}
+use Rattle.kind_laws.specs.Fitting.{AllFitInto, FitInto}
 
 -- a value of a kind is of it where Null may stand too
 of_wider : (k : ColumnKind) (one other : Bool) (v : Value) → (one ≡ true → other ≡ true) → is_of k one v ≡ true → is_of k other v ≡ true
@@ -44,3 +46,12 @@ fit_into (i ∷ input) (c ∷ columns) kinds nulls (v ∷ t) fit =
     both (is_of i.kind i.nullable v) (fits input t) (is_of c.kind c.nullable v) (fits columns t)
     (λ h. subst (λ k. is_of k c.nullable v ≡ true) (same_kind _ _ _ _ kinds) (of_wider i.kind i.nullable c.nullable v (nulls 0 i c refl refl) h))
     (λ rest. fit_into input columns (same_kinds _ _ _ _ kinds) (λ place one other at also n. nulls (suc place) one other at also n) t rest) fit
+
+goes_into : (input columns : List Column) → GoesInto input columns → FitInto input columns
+goes_into input columns goes t fit =
+    fit_into input columns goes.kinds
+    (λ place one other at also null. sym (ap is_nullable also) ∙ goes.nulls place (ap is_nullable at ∙ null)) t fit
+
+-- rows of the inputs of a union fit its columns
+pub all_fit_into : (inputs : List (List Column)) (columns : List Column) → AllGoInto inputs columns → AllFitInto inputs columns
+all_fit_into inputs columns all k d small = goes_into (get_or inputs k d) columns (all k d small)

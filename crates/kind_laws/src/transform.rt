@@ -1,8 +1,11 @@
 // The nodes of a flow as transforms of whole lists.
+use crate::distinct::distinct;
 use crate::joining::{join, lookup};
 use crate::mapping::map;
 use crate::projecting::project;
 use crate::selecting::select;
+use crate::sorting::sort;
+use crate::uniting::unite;
 use flow_types::{Kind, Node};
 use row_batch::Batch;
 use std::alloc::Global;
@@ -65,6 +68,9 @@ impl Transform for Law<'_> {
                 let (left, right) = (left.places(), right.places());
                 lookup(alloc, left, right, columns, &lists[0], &lists[1])
             }
+            Kind::Sort { by } => sort(alloc, by.places(), &lists[0]),
+            Kind::Distinct => distinct(alloc, &lists[0]),
+            Kind::Union { .. } => unite(alloc, columns, &lists),
         }
     }
 }

@@ -1,7 +1,6 @@
-use Rattle.std.proofs.Common.{◌≡◌, ◌∙◌, ◌++◌, ◌<◌, length, sym, ap}
+use Rattle.std.proofs.Common.{◌≡◌, ◌∙◌, ◌++◌, ◌<◌, length, ap}
 use Rattle.std.proofs.lemmas.List.Elements.{All-append, All-same}
 use Rattle.list_algebra.specs.Joins.{others}
-use Rattle.list_algebra.specs.Sorting.{ascending}
 use Rattle.kind_laws.proofs.Joined.{others_within}
 use Rattle.kind_laws.proofs.sorting.sort.Goals as goal
 
