@@ -121,7 +121,10 @@ fn kind_line(alloc: Global, kind: &Kind) -> Result<String, Fail> {
         Kind::Project { from } => Ok(format!(in alloc; "project{}", places(alloc, from)?)?),
         Kind::Sort { by } => Ok(format!(in alloc; "sort{}", places(alloc, by)?)?),
         Kind::Distinct => Ok(String::from_str(alloc, "distinct")?),
-        Kind::Union { any } => Ok(format!(in alloc; "union {}", if *any { "any" } else { "append" })?),
+        Kind::Union { any } => Ok(format!(in alloc;
+            "union {}",
+            if *any { "any" } else { "append" }
+        )?),
     }
 }
 
