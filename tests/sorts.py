@@ -28,7 +28,7 @@ UNIONS = [
 
 # Flows of several nodes, with the fault that comes first.
 ORDERS = [
-    ("x", [A, B], [sort("y", taken="s"), select("k = 1", name="s")], "s: unknown column k"),
+    ("x", [A], [sort("y", taken="s"), select("k = 1", name="s")], "s: unknown column k"),
     ("x", [A, B], [union("a", "b", "c")], "x: no input c"),
     ("x", [A, B], [union("a", "b", "a")], "a: is used twice"),
     ("x", [A, B], [union("a", "b")], "x: kinds differ"),
