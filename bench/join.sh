@@ -3,8 +3,8 @@
 # customers. Usage: bench/join.sh PROGRAM, where PROGRAM is a built whload. Processor seconds and the most memory, the least
 # of three rounds. See README.md.
 set -eu
-cd "$(dirname "$0")"
 program=$(readlink -f "$1")
+cd "$(dirname "$0")"
 work=$(mktemp -d)
 trap 'rm -rf "$work"' EXIT
 (cd twin && CARGO_TARGET_DIR="$work/target" cargo build --quiet --release --offline)
