@@ -24,3 +24,4 @@ pub mod SetNames
 pub mod SetColumns
 pub mod Pairs
 pub mod Unions
+pub mod Groups

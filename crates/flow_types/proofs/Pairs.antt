@@ -86,14 +86,14 @@ others_more right cols n =
     let same : n + 1 ≡ suc n = omega arith in
     rw same (ap (filter_map (slice_get right)) (filter-append (is_other cols) (below n) (n ∷ [])) ∙ filter_map-append (slice_get right) (filter (is_other cols) (below n)) (filter (is_other cols) (n ∷ [])))
 
-at_place : {X : Type 0} (P : X → Type 0) (xs : List X) (k : ℕ) (x : X) → All P xs → slice_get xs k ≡ Some x → P x
+pub at_place : {X : Type 0} (P : X → Type 0) (xs : List X) (k : ℕ) (x : X) → All P xs → slice_get xs k ≡ Some x → P x
 at_place P xs k x all at =
     let h = slice_get_within xs k x at in
     let here : x ≡ get_or xs k x = same_Some _ _ (sym at ∙ slice_get-get_or xs k x h) in
     subst P (sym here) (all k x h)
 
 -- what holds of all columns holds of those at some places
-all_found : (P : Column → Type 0) (columns : List Column) → All P columns → (places : List ℕ) → All P (filter_map (slice_get columns) places)
+pub all_found : (P : Column → Type 0) (columns : List Column) → All P columns → (places : List ℕ) → All P (filter_map (slice_get columns) places)
 all_found P columns all [] = All-nil P
 all_found P columns all (place ∷ places) = by (slice_get columns place) refl (all_found P columns all places)
   where

@@ -14,6 +14,8 @@ pub mod Joined
 pub mod Flows
 pub mod United
 pub mod Typed
+pub mod Makes
+pub mod Grouped
 pub mod Linked
 pub mod Typing
 pub mod Words

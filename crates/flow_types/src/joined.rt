@@ -62,8 +62,8 @@ pub fn type_lookup(
     })
 }
 
-// Refuses a name that comes twice, and then more columns than a schema may have.
-fn only_schema(alloc: Global, columns: Vec<Column>) -> Result<Vec<Column>, Stop<SchemaCause>>
+/// Refuses a name that comes twice, and then more columns than a schema may have.
+pub fn only_schema(alloc: Global, columns: Vec<Column>) -> Result<Vec<Column>, Stop<SchemaCause>>
     ensures only { GivesView (λ v. v.items) result (only_schema columns.items) }
     ensures same { IfOk result (λ v. v.items ≡ columns.items) }
     ensures distinct { IfOk result (λ v. no_double (names_in v.items) ≡ Ok tt) }

@@ -70,9 +70,10 @@ fn setting_of(alloc: Global, input: &Schema, text: &Text) -> Result<Setting, Sto
     Ok(Setting { column, value })
 }
 
-// What stands behind the second space.
-fn value_text(text: &str) -> &str
-    ensures { result.now ≡ value_text text.now }
+/// What stands behind the second space.
+pub fn value_text(text: &str) -> &str
+    ensures value { result.now ≡ value_text text.now }
+    ensures shorter { length result.now ≤ length text.now }
 {
     let Some(rest) = rest_of(text) else {
         return "";

@@ -89,6 +89,40 @@ pub struct Assign {
 /// What a map sets, in the order of its text.
 pub type Assigns = Listed<Assign>;
 
+/// What is made of the rows of a group.
+#[derive(Clone, Copy, Debug, PartialEq, Eq)]
+pub enum Agg {
+    /// How many rows there are.
+    Count,
+    /// In how many rows the column isn't Null.
+    CountOf,
+    /// The sum of the column's values.
+    Sum,
+    /// The least of them.
+    Min,
+    /// The greatest of them.
+    Max,
+}
+
+/// A column that an aggregate makes, of the input's column at this place; of a count of rows it says nothing, and is 0.
+#[derive(Debug, Drop)]
+pub struct Make {
+    pub what: Agg,
+    pub column: usize,
+}
+
+/// What an aggregate makes of each group, in the order of its columns.
+pub type Makes = Listed<Make>;
+
+/// In which order an aggregate gives its groups.
+#[derive(Clone, Copy, Debug, PartialEq, Eq)]
+pub enum GroupOrder {
+    /// As their first rows come.
+    First,
+    /// Ascending by their columns.
+    Key,
+}
+
 /// What a node does.
 #[derive(Debug, Drop)]
 pub enum Kind {

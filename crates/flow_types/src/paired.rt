@@ -71,8 +71,8 @@ fn pair_of(
     Ok(Pair { left, right })
 }
 
-// The place of a name that has to be there.
-fn known_place(names: &[&Text], column: Text) -> Result<usize, Stop<SchemaCause>>
+/// The place of a name that has to be there.
+pub fn known_place(names: &[&Text], column: Text) -> Result<usize, Stop<SchemaCause>>
     ensures { Gives result (known_place (map (λ n. n.now) names.now) column) }
 {
     match place_of(names, &column) {

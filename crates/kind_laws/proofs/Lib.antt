@@ -14,3 +14,8 @@ pub mod Fitting
 mod KeysNumbered
 mod KeysParts
 mod DistinctMore
+mod MakingLists
+mod MakingRows
+mod MakingTotals
+mod MakingValues
+mod MakingKinds

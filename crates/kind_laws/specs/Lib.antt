@@ -7,4 +7,7 @@ pub mod Runs
 pub mod Indexes
 pub mod Fitting
 pub mod Keys
+pub mod Makes
+pub mod Accumulators
+pub mod Grouping
 pub mod Words

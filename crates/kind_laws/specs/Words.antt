@@ -9,3 +9,6 @@ pub use Rattle.kind_laws.specs.Indexes.{FitBehind, IsIndex, PairsFit, compare_ke
 pub use Rattle.kind_laws.specs.Indexes.{given_rows, key_at, row_at}
 pub use Rattle.kind_laws.specs.Fitting.{AllFitInto, FitInto}
 pub use Rattle.kind_laws.specs.Keys.{key_number, with_key}
+pub use Rattle.kind_laws.specs.Makes.{aggregated, counted, difference, fall, given_in, made, made_of, ordered, rise}
+pub use Rattle.kind_laws.specs.Accumulators.{GiveEach, HoldsWithin, IsBest, IsTotal, IsWithin, ReadsWithin, StandEach, Stands, first_or, pick, rows_of, total_value, value_at, value_held, value_of_best, what_of}
+pub use Rattle.kind_laws.specs.Grouping.{IsGrouping}

@@ -13,6 +13,7 @@
 mod adding;
 mod distinct;
 mod evaluation;
+mod grouping;
 mod joining;
 mod keys;
 mod mapping;
@@ -22,6 +23,14 @@ mod projecting;
 mod selecting;
 mod sorted;
 mod sorting;
+mod making;
+mod mapping;
+mod matching;
+mod picking;
+mod projecting;
+mod selecting;
+mod sorted;
+mod summing;
 mod transform;
 mod uniting;
 
