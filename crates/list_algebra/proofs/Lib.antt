@@ -5,5 +5,6 @@ pub mod Clustered
 pub mod Instances
 pub mod Comparing
 pub mod Sorted
+pub mod Rearranged
 pub mod Trees
 mod TreeExamples

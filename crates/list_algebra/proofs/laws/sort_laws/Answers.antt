@@ -1,3 +1,4 @@
+use Rattle.list_algebra.proofs.Rearranged.{ascending_bag, sorted_bag}
 use Rattle.list_algebra.proofs.Sorted.{ascending_moves, ascending_sorted, ascending_stable, ascending_only}
 use Rattle.list_algebra.proofs.laws.sort_laws.Goals as goal
 
@@ -12,3 +13,9 @@ returns-clause-stable c = ascending_stable
 
 pub returns-clause-only : goal.returns-clause-only
 returns-clause-only c = ascending_only
+
+pub returns-clause-order_free : goal.returns-clause-order_free
+returns-clause-order_free c = sorted_bag
+
+pub returns-clause-bag : goal.returns-clause-bag
+returns-clause-bag c = ascending_bag
