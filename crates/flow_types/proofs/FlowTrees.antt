@@ -134,9 +134,11 @@ ordered n below is = by n.kind refl is.over
     by (kind.Map sets) same over = rw same refl
     by (kind.Join left right) same over = rw same refl
     by (kind.Lookup left right) same over = rw same refl
+    by (kind.Aggregate columns makes order) same over = rw same refl
     by (kind.Sort columns) same over = rw same refl
     by kind.Distinct same over = rw same refl
     by (kind.Union any) same over = rw same refl
+    by kind.Number same over = rw same refl
 
 -- each node of a flow keeps the order of rows
 pub fixed_root : (flow : TypedFlow) → IsFlow flow → has_fixed_root flow.nodes ≡ true

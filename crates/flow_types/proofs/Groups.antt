@@ -22,7 +22,7 @@ use Rattle.flow_types.specs.Paired.{place_or, known_place}
 use Rattle.flow_types.specs.Taken.{IsTaken, Takes}
 use Rattle.flow_types.specs.Makes.{makes_of, make_of, only_summable, may_of, may_be_made, made_kind, made_column, made_columns}
 use Rattle.flow_types.specs.Grouped.{group_places, group_output, grouped, IsMadeOf, IsGrouped}
-use Rattle.flow_types.specs.Typed.{only_schema}
+use Rattle.flow_types.specs.Mapped.{only_schema}
 use Rattle.flow_types.proofs.Columns.{scaled_schema}
 use Rattle.flow_types.proofs.Distincts.{found}
 use Rattle.flow_types.proofs.Made.{bound}

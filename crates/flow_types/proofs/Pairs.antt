@@ -21,7 +21,8 @@ use Rattle.flow_types.specs.Names.{names_in, no_double}
 use Rattle.flow_types.specs.Paired.{agree, is_of_one_kind, lefts, rights, paired_again, only_once, pairs_of}
 use Rattle.flow_types.specs.Joined.{IsPair, ArePairs, other_columns, as_nullable, join_columns, lookup_columns}
 use Rattle.flow_types.specs.declared.node.Kind.TheVariants as node_kind
-use Rattle.flow_types.specs.Typed.{only_schema, typed_join, typed_lookup}
+use Rattle.flow_types.specs.Mapped.{only_schema}
+use Rattle.flow_types.specs.Typed.{typed_join, typed_lookup}
 use Rattle.flow_types.proofs.Columns.{scaled_schema}
 use Rattle.flow_types.proofs.Places.{least_is, least_none}
 

@@ -10,7 +10,7 @@ use Rattle.flow_types.specs.Each.{each_made}
 use Rattle.flow_types.specs.Paired.{known_place}
 use Rattle.flow_types.specs.Taken.{Takes}
 use Rattle.flow_types.specs.Makes.{makes_of, only_summable, may_be_of, made_kind, made_nullable, made_columns}
-use Rattle.flow_types.specs.Typed.{only_schema}
+use Rattle.flow_types.specs.Mapped.{only_schema}
 
 -- the places of the columns by which rows are grouped, or the first name that isn't there
 abbrev pub group_places : List Column → List (List ℕ) → Result (List ℕ) SchemaCause

@@ -13,9 +13,10 @@ pub mod Paired
 pub mod Joined
 pub mod Flows
 pub mod United
-pub mod Typed
 pub mod Makes
 pub mod Grouped
+pub mod Numbering
+pub mod Typed
 pub mod Linked
 pub mod Typing
 pub mod Words

@@ -3,7 +3,8 @@ use Rattle.std.specs.Prelude.{◌≡◌, ◌<◌, ◌≤◌, ◌==◌, ℕ, List
 use Rattle.tuple_schema.specs.declared.schema.Column.{Column}
 use Rattle.tuple_schema.specs.Schemas.{IsSchema, are_distinct}
 use Rattle.list_algebra.specs.Trees.{Tree, Trees, EachNode, roots_of, in_order}
-use Rattle.workflow_file.specs.Kept.{KeepsSource}
+use Rattle.workflow_file.specs.Kept.{KeepsSource, AllKeep}
+use Rattle.workflow_file.specs.Texts.{make_lack}
 use Rattle.expr_lang.specs.Trees.{tree_of as expression_tree}
 use Rattle.expr_lang.specs.Kinds.{typing}
 use Rattle.expr_lang.specs.declared.kind.ExprKind.TheVariants as sort
@@ -12,11 +13,13 @@ use Rattle.flow_types.specs.Taken.{Takes}
 use Rattle.flow_types.specs.Assigned.{IsAssigned}
 use Rattle.flow_types.specs.Joined.{ArePairs, join_columns, lookup_columns}
 use Rattle.flow_types.specs.United.{AllGoInto}
+use Rattle.flow_types.specs.Grouped.{IsGrouped}
+use Rattle.flow_types.specs.Numbering.{numbered_columns}
 use Rattle.flow_types.specs.declared.node.Source.{Source}
 use Rattle.flow_types.specs.declared.node.Kind.{Kind}
 use Rattle.flow_types.specs.declared.node.Kind.TheVariants as kind
 use Rattle.flow_types.specs.declared.node.Node.{Node}
-use Rattle.flow_types.specs.NodeTexts.{NodeText, source, select, project, mapped, joined, looked_up, sorted, distinct, united}
+use Rattle.flow_types.specs.NodeTexts.{NodeText, source, select, project, mapped, joined, looked_up, aggregated, sorted, distinct, united, numbered}
 use Rattle.flow_types.specs.Flows.{TypedFlow, number_of, tree_of, columns_in, columns_of, ids_of}
 
 -- a source that is built at this stage: a CSV file, its rows in the truth's order
@@ -32,9 +35,11 @@ KeepsText (project texts) = (1 ≤ length texts) × (length texts ≤ 64)
 KeepsText (mapped texts) = ⊤
 KeepsText (joined texts) = ⊤
 KeepsText (looked_up texts) = ⊤
+KeepsText (aggregated by makes order) = AllKeep 1 64 make_lack makes
 KeepsText (sorted names) = ⊤
 KeepsText distinct = ⊤
 KeepsText (united names) = 2 ≤ length names
+KeepsText (numbered name) = ⊤
 
 -- a kind over inputs with these columns gives these columns
 abbrev pub IsOver : Kind → List (List Column) → List Column → Type 0
@@ -49,9 +54,13 @@ IsOver (kind.Join left right) inputs columns =
 IsOver (kind.Lookup left right) inputs columns =
     (length inputs ≡ 2) × ArePairs (columns_in inputs 0) (columns_in inputs 1) left right
     × (columns ≡ lookup_columns (columns_in inputs 0) (columns_in inputs 1) right)
+IsOver (kind.Aggregate by makes order) inputs columns =
+    (length inputs ≡ 1) × IsGrouped (columns_in inputs 0) by makes columns
 IsOver (kind.Sort by) inputs columns = (inputs ≡ columns ∷ []) × All (λ place. place < length columns) by
 IsOver kind.Distinct inputs columns = inputs ≡ columns ∷ []
 IsOver (kind.Union any) inputs columns = (any ≡ false) × (1 ≤ length inputs) × AllGoInto inputs columns
+IsOver kind.Number inputs columns =
+    (length inputs ≡ 1) × ((name : List ℕ) × (columns ≡ numbered_columns (columns_in inputs 0) name))
 
 -- a node over these inputs, whose columns are a schema
 pub record IsLinked (n : Node) (below : List Node) : Type 0 where

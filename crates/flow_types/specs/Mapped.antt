@@ -10,7 +10,7 @@ use Rattle.flow_types.specs.declared.fault.SchemaCause.{SchemaCause}
 use Rattle.flow_types.specs.declared.fault.SchemaCause.TheVariants as cause
 use Rattle.flow_types.specs.declared.node.Assign.{Assign}
 use Rattle.flow_types.specs.declared.mapped.Setting.{Setting}
-use Rattle.flow_types.specs.Names.{place_of, names_in}
+use Rattle.flow_types.specs.Names.{place_of, names_in, no_double}
 use Rattle.flow_types.specs.Expressions.{expression_of, kind_over}
 
 -- the expression in `NAME = EXPRESSION`: what stands behind the second space
@@ -61,3 +61,9 @@ assign_in names s = option_map (λ place. record { place = place; value = s.valu
 -- at most 64 columns
 abbrev pub only_few : List Column → Result (List Column) SchemaCause
 only_few columns = if nat_le (length columns) 64 then Ok columns else Err cause.TooManyColumns
+
+-- those of an output with these columns: no name comes twice, and they are few
+abbrev pub only_schema : List Column → Result (List Column) SchemaCause
+only_schema columns = do
+  _ ← no_double (names_in columns)
+  only_few columns

@@ -12,6 +12,7 @@ use Rattle.flow_types.specs.declared.fault.SchemaCause.TheVariants as cause
 use Rattle.flow_types.specs.declared.fault.SchemaFault.{SchemaFault}
 use Rattle.flow_types.specs.declared.node.Node.{Node}
 use Rattle.flow_types.specs.declared.node.Source.{Source}
+use Rattle.flow_types.specs.declared.node.GroupOrder.{GroupOrder}
 use Rattle.flow_types.specs.declared.node.Kind.{Kind}
 use Rattle.flow_types.specs.declared.node.Kind.TheVariants as kind
 use Rattle.flow_types.specs.Names.{name_at, names_in, no_double, no_unknown, cols_if, place_of, last_name}
@@ -21,8 +22,10 @@ use Rattle.flow_types.specs.Each.{each_made}
 use Rattle.flow_types.specs.Paired.{pairs_of, lefts, rights}
 use Rattle.flow_types.specs.Joined.{join_columns, lookup_columns}
 use Rattle.flow_types.specs.United.{only_alike, united_columns}
-use Rattle.flow_types.specs.Mapped.{setting_of, columns_set, set_columns, assign_in, only_few}
-use Rattle.flow_types.specs.NodeTexts.{NodeText, source, select, project, mapped, joined, looked_up, sorted, distinct, united, text_at}
+use Rattle.flow_types.specs.Grouped.{grouped}
+use Rattle.flow_types.specs.Numbering.{numbered_columns}
+use Rattle.flow_types.specs.Mapped.{setting_of, columns_set, set_columns, assign_in, only_few, only_schema}
+use Rattle.flow_types.specs.NodeTexts.{NodeText, source, select, project, mapped, joined, looked_up, aggregated, sorted, distinct, united, numbered, text_at}
 use Rattle.flow_types.specs.Graph.{names_of, id_of, fault_at, graph_of}
 
 -- the column of a name
@@ -98,12 +101,6 @@ typed_map texts columns = do
   output ← only_few (set_columns columns settings)
   Ok (kind.Map (filter_map (assign_in (names_in output)) settings), output)
 
--- those of an output with these columns: no name comes twice, and they are few
-abbrev pub only_schema : List Column → Result (List Column) SchemaCause
-only_schema columns = do
-  _ ← no_double (names_in columns)
-  only_few columns
-
 -- those of a join of these columns
 abbrev pub typed_join : List (List ℕ) → List Column → List Column → Result (Kind × List Column) SchemaCause
 typed_join texts left right = do
@@ -134,6 +131,19 @@ typed_union inputs = do
   _ ← only_alike (columns_in inputs 0) inputs
   Ok (kind.Union false, united_columns inputs)
 
+-- those of an aggregate of these columns
+abbrev pub typed_aggregate : List (List ℕ) → List (List ℕ) → GroupOrder → List Column
+    → Result (Kind × List Column) SchemaCause
+typed_aggregate by texts order columns = do
+  found ← grouped by texts columns
+  Ok (kind.Aggregate found.0.0 found.0.1 order, found.1)
+
+-- those of a numbering of these columns: the number has a name of its own
+abbrev pub typed_number : List ℕ → List Column → Result (Kind × List Column) SchemaCause
+typed_number name columns = do
+  output ← only_schema (numbered_columns columns name)
+  Ok (kind.Number, output)
+
 -- the kind and the columns of a node that says this, over inputs with these columns
 abbrev pub typed_text : NodeText → List (List Column) → Result (Kind × List Column) SchemaCause
 typed_text (source s) inputs = typed_source s
@@ -142,9 +152,11 @@ typed_text (project texts) inputs = typed_project texts (columns_in inputs 0)
 typed_text (mapped texts) inputs = typed_map texts (columns_in inputs 0)
 typed_text (joined texts) inputs = typed_join texts (columns_in inputs 0) (columns_in inputs 1)
 typed_text (looked_up texts) inputs = typed_lookup texts (columns_in inputs 0) (columns_in inputs 1)
+typed_text (aggregated by makes order) inputs = typed_aggregate by makes order (columns_in inputs 0)
 typed_text (sorted names) inputs = typed_sort names (columns_in inputs 0)
 typed_text distinct inputs = typed_distinct (columns_in inputs 0)
 typed_text (united names) inputs = typed_union inputs
+typed_text (numbered name) inputs = typed_number name (columns_in inputs 0)
 
 -- the same of what stands at a place, if something does
 abbrev pub typed_at : Option NodeText → List (List Column) → Result (Kind × List Column) SchemaCause

@@ -6,7 +6,7 @@ pub use Rattle.flow_types.specs.Trees.{IsWhole, inputs_below, tree_below}
 pub use Rattle.flow_types.specs.Graph.{AreWithin, ComeOnce, all_reached, fault_at, flow_tree, graph_of, id_of}
 pub use Rattle.flow_types.specs.Graph.{input_fault, input_names, inputs_exist, is_in, links_of, names_differ}
 pub use Rattle.flow_types.specs.Graph.{names_of, needs_of, root_at, used_once}
-pub use Rattle.flow_types.specs.NodeTexts.{inputs_needed, is_append, text_at, text_of, text_seen, union_text}
+pub use Rattle.flow_types.specs.NodeTexts.{aggregate_text, inputs_needed, is_append, order_of, text_at, text_of, text_seen, union_text}
 pub use Rattle.flow_types.specs.Built.{is_built, is_built_node, is_built_source, is_csv}
 pub use Rattle.flow_types.specs.Flows.{IsBelow, TypedFlow, columns_of, count_inputs, has_fixed_root, ids_of}
 pub use Rattle.flow_types.specs.Flows.{node_of, number_of, rank_of, root_in, tree_of}
@@ -23,11 +23,13 @@ pub use Rattle.flow_types.specs.Assigned.{HoldsCell, HoldsValue, IsAssigned, set
 pub use Rattle.flow_types.specs.Names.{is_again, last_name}
 pub use Rattle.flow_types.specs.Paired.{is_of_one_kind, known_place, lefts, only_agreeing, only_once, pair_of}
 pub use Rattle.flow_types.specs.Paired.{paired_again, pairs_of, rights}
-pub use Rattle.flow_types.specs.Typed.{only_schema, typed_join, typed_lookup}
+pub use Rattle.flow_types.specs.Mapped.{only_schema}
+pub use Rattle.flow_types.specs.Typed.{typed_join, typed_lookup}
 pub use Rattle.flow_types.specs.Joined.{ArePairs, IsPair, as_nullable, join_columns, lookup_columns, other_columns}
-pub use Rattle.flow_types.specs.Typed.{typed_distinct, typed_sort, typed_union}
+pub use Rattle.flow_types.specs.Typed.{typed_aggregate, typed_distinct, typed_number, typed_sort, typed_union}
 pub use Rattle.flow_types.specs.United.{AllGoInto, GoesInto, any_nullable, are_alike, may_be_null, only_alike}
 pub use Rattle.flow_types.specs.United.{united_column, united_columns, united_from}
 pub use Rattle.flow_types.specs.Makes.{agg_of, is_number, made_column, made_columns, made_from, made_kind, made_nullable}
 pub use Rattle.flow_types.specs.Makes.{make_in, makes_of, may_be_made, may_be_of, only_summable, place_if}
 pub use Rattle.flow_types.specs.Grouped.{IsGrouped, IsMadeOf, group_output, group_places, grouped}
+pub use Rattle.flow_types.specs.Numbering.{numbered_columns}

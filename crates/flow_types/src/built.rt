@@ -8,8 +8,7 @@ use tuple_schema::Text;
 use workflow_file::{RawFlow, RawNode, RawSource};
 
 /// Whether the flow is one that can be typed at this stage: a table without a key, sources of promise `seq` in CSV
-/// files, and selections, projections, maps, joins, lookups, sorts, distincts and unions that put one input behind the
-/// other, which declare nothing.
+/// files, and nodes that declare nothing, of each kind but unions in any order.
 #[tactic(auto, unfolding(crate::specs::Built::is_built))]
 pub fn is_built(raw: &RawFlow) -> bool
     ensures { result ≡ is_built raw.now }
@@ -61,9 +60,11 @@ fn has_text(node: &RawNode) -> bool
         "project" => node.columns.is_some(),
         "map" => node.set.is_some(),
         "join" | "lookup" => node.on.is_some(),
+        "aggregate" => node.by.is_some() && node.make.is_some() && node.order.is_some(),
         "sort" => node.by.is_some(),
         "distinct" => true,
         "union" => is_append(&node.order) && node.inputs.is_some(),
+        "number" => node.column.is_some(),
         _ => false,
     }
 }

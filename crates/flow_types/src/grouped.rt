@@ -1,33 +1,58 @@
 // Aggregates: the columns by which rows are grouped, and those that are made of each group.
-ghost use Rattle.std.specs.Prelude.{◌≡◌, ◌<◌, ◌≤◌, ◌++◌, length, map, filter_map, slice_get, option_to_list, option_copied, true, IfOk, IfSome, OnOk};
+ghost use Rattle.std.specs.Prelude.{◌≡◌, ◌<◌, ◌≤◌, ◌++◌, [], ◌∷◌, length, map, filter_map, slice_get, option_to_list, option_copied, true, IfOk, IfSome, OnOk};
 ghost use Rattle.std.specs.List.{list_all};
 ghost use Rattle.tuple_schema.specs.Words.{Gives, GivesView, IsSchema, head_of};
 ghost use Rattle.workflow_file.specs.Kept.{AllKeep};
 ghost use Rattle.workflow_file.specs.Texts.{make_lack};
-ghost use Rattle.flow_types.specs.Words.{IsGrouped, agg_of, group_output, group_places, grouped, is_number, made_column};
+ghost use Rattle.flow_types.specs.Words.{IsGrouped, IsOver, agg_of, group_output, group_places, grouped, is_number, made_column};
 ghost use Rattle.flow_types.specs.Words.{made_columns, made_from, made_kind, made_nullable, make_in, makes_of, may_be_made};
-ghost use Rattle.flow_types.specs.Words.{may_be_of, only_summable, place_if, value_text};
+ghost use Rattle.flow_types.specs.Words.{may_be_of, only_summable, place_if, typed_aggregate, value_text};
 
 use crate::fault::SchemaCause;
 use crate::joined::only_schema;
 use crate::mapped::value_text;
 use crate::names::names_in;
-use crate::node::{Agg, Make, Makes};
+use crate::node::{Agg, Cols, GroupOrder, Kind, Make, Makes};
 use crate::paired::known_place;
+use crate::typed::Typed;
 use crate::typing;
 use std::alloc::Global;
 use tuple_schema::{Column, ColumnKind, Memory, Schema, Stop, Text, head_of, rest_of};
 
-/// The places of the columns by which rows are grouped, what is made of each group, and the columns of the output.
-#[derive(Drop)]
-pub struct Grouped {
-    pub by: Vec<usize>,
-    pub makes: Makes,
-    pub columns: Vec<Column>,
+/// What an aggregate is by these names, that makes what the texts say and gives its groups in this order, over an input.
+pub fn type_aggregate(
+    alloc: Global,
+    by: &[Text],
+    makes: &[Text],
+    order: GroupOrder,
+    input: &Schema,
+) -> Result<Typed, Stop<SchemaCause>>
+    requires kept { AllKeep 1 64 make_lack makes.now }
+    ensures typed { GivesView (λ t. (t.kind, t.schema)) result
+        (typed_aggregate by.now makes.now order input.now) }
+    ensures over { IfOk result (λ t. IsOver t.kind (input.now ∷ []) t.schema) }
+{
+    let found = group_columns(alloc, by, makes, input)?;
+    Ok(Typed {
+        kind: Kind::Aggregate {
+            by: Cols::of(found.by),
+            makes: found.makes,
+            order,
+        },
+        schema: Schema::of(found.columns),
+    })
 }
 
-/// What an aggregate is by these names, that makes what the texts say, over an input.
-pub fn group_columns(
+// The places of the columns by which rows are grouped, what is made of each group, and the columns of the output.
+#[derive(Drop)]
+struct Grouped {
+    by: Vec<usize>,
+    makes: Makes,
+    columns: Vec<Column>,
+}
+
+// The places, what is made, and the output; or the first cause by which it is refused.
+fn group_columns(
     alloc: Global,
     by: &[Text],
     makes: &[Text],

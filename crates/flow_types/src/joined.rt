@@ -166,7 +166,8 @@ fn behind(alloc: Global, left: &[Column], others: &[Column]) -> Result<Vec<Colum
     Ok(columns)
 }
 
-fn push_columns(more: &[Column], columns: &mut Vec<Column>) -> Result<(), Memory>
+/// Adds copies of these columns.
+pub fn push_columns(more: &[Column], columns: &mut Vec<Column>) -> Result<(), Memory>
     ensures { OnOk result (columns.new.items ≡ columns.old.items ++ more.now) }
 {
     for column in more {

@@ -138,12 +138,21 @@ pub enum Kind {
     Join { left: Cols, right: Cols },
     /// The same, and a left row with which none agrees comes once, with Null behind it.
     Lookup { left: Cols, right: Cols },
+    /// Gives of each group of rows that are equal in these columns the values there, and behind them what it makes of the
+    /// group's rows. Nulls are equal.
+    Aggregate {
+        by: Cols,
+        makes: Makes,
+        order: GroupOrder,
+    },
     /// Gives the rows ascending by these columns, then by the others.
     Sort { by: Cols },
     /// Gives the first of each equal row.
     Distinct,
     /// Gives the rows of its inputs, one input after the other; with `any`, in some order that leaves each input's.
     Union { any: bool },
+    /// Gives each row with its number behind it, from 1.
+    Number,
 }
 
 /// A node of a flow, with the columns of what it gives.

@@ -1,13 +1,15 @@
 // What a node of a raw flow says, by its kind.
 ghost use Rattle.std.specs.Prelude.{◌≡◌, ◌<◌, ◌+◌, Some, length, option_map, IsTrue};
-ghost use Rattle.flow_types.specs.Words.{is_append, is_built, name_at, names_of, text_of, text_at, text_seen, union_text};
+ghost use Rattle.flow_types.specs.Words.{aggregate_text, is_append, is_built, name_at, names_of, order_of, text_of, text_at, text_seen, union_text};
 
+use crate::node::GroupOrder;
 use tuple_schema::Text;
 use workflow_file::{RawFlow, RawNode, RawSource};
 
 /// A source, a selection by the text of its test, a projection by the texts of its columns, a map by its texts, a join
-/// or a lookup by the texts of its pairs, a sort by the names of its columns, a distinct, or a union by the names of its
-/// inputs.
+/// or a lookup by the texts of its pairs, an aggregate by the names of its columns, the texts of what it makes and the
+/// order of its groups, a sort by the names of its columns, a distinct, a union by the names of its inputs, or a
+/// numbering by the name of its column.
 #[derive(Clone, Copy)]
 pub enum NodeText<'r> {
     Source(&'r RawSource),
@@ -16,9 +18,11 @@ pub enum NodeText<'r> {
     Map(&'r [Text]),
     Join(&'r [Text]),
     Lookup(&'r [Text]),
+    Aggregate(&'r [Text], &'r [Text], GroupOrder),
     Sort(&'r [Text]),
     Distinct,
     Union(&'r [Text]),
+    Number(&'r Text),
 }
 
 /// What the node at a place says, sources first.
@@ -49,10 +53,33 @@ fn text_of(node: &RawNode) -> Option<NodeText<'_>>
         "map" => Some(NodeText::Map(node.set.as_ref()?.items())),
         "join" => Some(NodeText::Join(node.on.as_ref()?.items())),
         "lookup" => Some(NodeText::Lookup(node.on.as_ref()?.items())),
+        "aggregate" => aggregate_text(node),
         "sort" => Some(NodeText::Sort(node.by.as_ref()?.items())),
         "distinct" => Some(NodeText::Distinct),
         "union" => union_text(node),
+        "number" => Some(NodeText::Number(node.column.as_ref()?)),
         _ => None,
+    }
+}
+
+// What an aggregate says.
+fn aggregate_text(node: &RawNode) -> Option<NodeText<'_>>
+    ensures { option_map text_seen result ≡ aggregate_text node.now }
+{
+    let by = node.by.as_ref()?.items();
+    let makes = node.make.as_ref()?.items();
+    let order = order_of(node.order.as_ref()?);
+    Some(NodeText::Aggregate(by, makes, order))
+}
+
+// The order in which groups come, by its word.
+fn order_of(word: &Text) -> GroupOrder
+    ensures { result ≡ order_of word.now }
+{
+    if word.as_str() == "key" {
+        GroupOrder::Key
+    } else {
+        GroupOrder::First
     }
 }
 

@@ -14,11 +14,13 @@ use crate::column_texts::stated_columns;
 use crate::expressions::test_of;
 use crate::fault::{NodeId, SchemaCause, SchemaFault};
 use crate::graph::{Link, fault_at, inputs_below};
+use crate::grouped::type_aggregate;
 use crate::joined::{type_join, type_lookup};
 use crate::mapped::type_map;
 use crate::names::{cols_if, names_in, no_double, place_of};
 use crate::node::{Cols, Inputs, Kind, Node, Source};
 use crate::node_text::{NodeText, name_at, text_at};
+use crate::numbering::type_number;
 use crate::ordered::{type_distinct, type_sort};
 use crate::typed::Typed;
 use crate::united::type_union;
@@ -158,9 +160,13 @@ fn type_text(
         NodeText::Map(texts) => type_map(alloc, texts, &inputs[0].schema),
         NodeText::Join(texts) => type_join(alloc, texts, &inputs[0].schema, &inputs[1].schema),
         NodeText::Lookup(texts) => type_lookup(alloc, texts, &inputs[0].schema, &inputs[1].schema),
+        NodeText::Aggregate(by, makes, order) => {
+            type_aggregate(alloc, by, makes, order, &inputs[0].schema)
+        }
         NodeText::Sort(names) => type_sort(alloc, names, &inputs[0].schema),
         NodeText::Distinct => type_distinct(&inputs[0].schema),
         NodeText::Union(_) => type_union(alloc, inputs),
+        NodeText::Number(name) => type_number(alloc, name, &inputs[0].schema),
     }
 }
 

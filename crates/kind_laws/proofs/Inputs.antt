@@ -18,6 +18,8 @@ source_or_over (kind.Project from) inputs columns over = let one = over.0 in inr
 source_or_over (kind.Map sets) inputs columns over = let one = over.0 in inr (omega arith)
 source_or_over (kind.Join left right) inputs columns over = let two = over.0 in inr (omega arith)
 source_or_over (kind.Lookup left right) inputs columns over = let two = over.0 in inr (omega arith)
+source_or_over (kind.Aggregate by makes order) inputs columns over = let one = over.0 in inr (omega arith)
 source_or_over (kind.Sort by) inputs columns over = inr (some_of inputs columns over.0)
 source_or_over kind.Distinct inputs columns over = inr (some_of inputs columns over)
 source_or_over (kind.Union any) inputs columns over = inr over.1
+source_or_over kind.Number inputs columns over = let one = over.0 in inr (omega arith)

@@ -7,7 +7,9 @@ use Rattle.list_algebra.specs.Joins.{others, join, lookup}
 use Rattle.list_algebra.specs.Sorting.{sort}
 use Rattle.list_algebra.specs.Groups.{distinct}
 use Rattle.list_algebra.specs.Unions.{appended}
+use Rattle.list_algebra.specs.Numbers.{numbered}
 use Rattle.kind_laws.specs.Expressions.{selected, mapped}
+use Rattle.kind_laws.specs.Makes.{aggregated}
 use Rattle.flow_types.specs.declared.node.Kind.{Kind}
 use Rattle.flow_types.specs.declared.node.Kind.TheVariants as kind
 use Rattle.flow_types.specs.Flows.{columns_in}
@@ -30,6 +32,8 @@ output_of (kind.Join left right) columns lists =
     join left right (others (length (columns_in columns 1)) right) (list_in lists 1) (list_in lists 0)
 output_of (kind.Lookup left right) columns lists =
     lookup left right (others (length (columns_in columns 1)) right) (list_in lists 1) (list_in lists 0)
+output_of (kind.Aggregate by makes order) columns lists = aggregated by makes order (list_in lists 0)
 output_of (kind.Sort by) columns lists = sort (length (columns_in columns 0)) by (list_in lists 0)
 output_of kind.Distinct columns lists = distinct (list_in lists 0)
 output_of (kind.Union any) columns lists = appended lists
+output_of kind.Number columns lists = numbered (list_in lists 0)
