@@ -138,7 +138,6 @@ ordered n below is = by n.kind refl is.over
     by (kind.Sort columns) same over = rw same refl
     by kind.Distinct same over = rw same refl
     by (kind.Union any) same over = rw same refl
-    by kind.Number same over = rw same refl
 
 -- each node of a flow keeps the order of rows
 pub fixed_root : (flow : TypedFlow) → IsFlow flow → has_fixed_root flow.nodes ≡ true

@@ -10,7 +10,7 @@ use Rattle.workflow_file.specs.declared.raw.RawFlow.{RawFlow}
 use Rattle.workflow_file.specs.Kept.{KeepsSource, KeepsNode, KeepsRules}
 use Rattle.flow_types.specs.Built.{is_built_source, is_built_node, is_built}
 use Rattle.flow_types.specs.NodeTexts.{NodeText, source, text_of, text_at}
-use Rattle.flow_types.proofs.Said.{Said, by_test, by_columns, by_set, by_join, by_lookup, by_aggregate, by_sort, by_distinct, by_union, by_number, said}
+use Rattle.flow_types.proofs.Said.{Said, by_test, by_columns, by_set, by_join, by_lookup, by_aggregate, by_sort, by_distinct, by_union, said}
 use Rattle.flow_types.specs.Linked.{KeepsText}
 
 pub all_pass : {X : Type 0} (p : X → Bool) (xs : List X) (k : ℕ) (d : X) → list_all p xs ≡ true → k < length xs → p (get_or xs k d) ≡ true
@@ -53,7 +53,6 @@ said_keeps n keeps text (by_distinct kind is) = rw (← is) tt
 said_keeps n keeps text (by_union names kind at is) =
     let fits = rw at at keeps.inputs.fits in
     rw (← is) fits.some
-said_keeps n keeps text (by_number name kind at is) = rw (← is) tt
 
 node_keeps : (n : RawNode) → KeepsNode n → (text : NodeText) → text_of n ≡ Some text → KeepsText text
 node_keeps n keeps text is = said_keeps n keeps text (said n text is)

@@ -4,7 +4,7 @@ use Rattle.std.proofs.lemmas.Bool.{cases_Bool}
 use Rattle.std.proofs.lemmas.Option.{same_Some}
 use Rattle.std.proofs.lemmas.Slice.Eq.{bytes_eq-Decides}
 use Rattle.workflow_file.specs.declared.raw.RawNode.{RawNode}
-use Rattle.flow_types.specs.NodeTexts.{NodeText, select, project, mapped, joined, looked_up, aggregated, sorted, distinct, united, numbered, order_of, aggregate_text, is_append, union_text, text_of}
+use Rattle.flow_types.specs.NodeTexts.{NodeText, select, project, mapped, joined, looked_up, aggregated, sorted, distinct, united, order_of, aggregate_text, is_append, union_text, text_of}
 
 -- a node of a kind says the text or the texts of the kind's key
 pub data Said (n : RawNode) (text : NodeText) : Type 0 where
@@ -17,7 +17,6 @@ pub data Said (n : RawNode) (text : NodeText) : Type 0 where
   by_sort : (names : List (List ℕ)) → n.kind ≡ codes "sort" → n.by ≡ Some names → sorted names ≡ text → Said n text
   by_distinct : n.kind ≡ codes "distinct" → distinct ≡ text → Said n text
   by_union : (names : List (List ℕ)) → n.kind ≡ codes "union" → n.inputs ≡ Some names → united names ≡ text → Said n text
-  by_number : (name : List ℕ) → n.kind ≡ codes "number" → n.column ≡ Some name → numbered name ≡ text → Said n text
 
 made_of : {X : Type 0} (make : X → NodeText) (o : Option X) (text : NodeText) → option_map make o ≡ Some text → (x : X) × (o ≡ Some x) × (make x ≡ text)
 made_of make None text is = absurd (cc)
@@ -46,23 +45,17 @@ module _ (n : RawNode) (text : NodeText) where
   is_kind : (word : List ℕ) → bytes_eq n.kind word ≡ true → n.kind ≡ word
   is_kind word same = (bytes_eq-Decides n.kind word).0 same
 
-  last_said : (if bytes_eq n.kind (codes "union") then union_text n else if bytes_eq n.kind (codes "number") then option_map numbered n.column else None) ≡ Some text
-      → Said n text
+  last_said : (if bytes_eq n.kind (codes "union") then union_text n else None) ≡ Some text → Said n text
   last_said is =
       elim (cases_Bool (bytes_eq n.kind (codes "union"))) [
         | inl same ↦
             let made = united_of n text (rw same at is) in
             by_union made.0 (is_kind (codes "union") same) made.1 made.2
-        | inr no_union ↦ elim (cases_Bool (bytes_eq n.kind (codes "number"))) [
-          | inl same ↦
-              let made = made_of numbered n.column text (rw (no_union, same) at is) in
-              by_number made.0 (is_kind (codes "number") same) made.1 made.2
-          | inr no_number ↦ let none : None ≡ Some text = rw (no_union, no_number) at is in absurd (cc)
-        ]
+        | inr no_union ↦ let none : None ≡ Some text = rw no_union at is in absurd (cc)
       ]
 
   said_later : (if bytes_eq n.kind (codes "aggregate") then aggregate_text n else if bytes_eq n.kind (codes "sort") then option_map sorted n.by else if bytes_eq n.kind (codes "distinct") then Some distinct
-      else if bytes_eq n.kind (codes "union") then union_text n else if bytes_eq n.kind (codes "number") then option_map numbered n.column else None) ≡ Some text
+      else if bytes_eq n.kind (codes "union") then union_text n else None) ≡ Some text
       → Said n text
   said_later is =
       elim (cases_Bool (bytes_eq n.kind (codes "aggregate"))) [
@@ -122,6 +115,6 @@ module _ (n : RawNode) (kind : List ℕ) (is : kind ≡ n.kind) where
 
   -- a node of no kind that is built says nothing
   pub nothing_said : kind ≢ codes "select" → kind ≢ codes "project" → kind ≢ codes "map" → kind ≢ codes "join" → kind ≢ codes "lookup"
-      → kind ≢ codes "aggregate" → kind ≢ codes "sort" → kind ≢ codes "distinct" → kind ≢ codes "union" → kind ≢ codes "number" → text_of n ≡ None
-  nothing_said a b c d e f g h i j =
-      rw (is_no _ a, is_no _ b, is_no _ c, is_no _ d, is_no _ e, is_no _ f, is_no _ g, is_no _ h, is_no _ i, is_no _ j) refl
+      → kind ≢ codes "aggregate" → kind ≢ codes "sort" → kind ≢ codes "distinct" → kind ≢ codes "union" → text_of n ≡ None
+  nothing_said a b c d e f g h i =
+      rw (is_no _ a, is_no _ b, is_no _ c, is_no _ d, is_no _ e, is_no _ f, is_no _ g, is_no _ h, is_no _ i) refl

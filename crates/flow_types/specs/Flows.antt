@@ -63,7 +63,6 @@ keeps_order (kind.Aggregate by makes order) = true
 keeps_order (kind.Sort by) = true
 keeps_order kind.Distinct = true
 keeps_order (kind.Union any) = true
-keeps_order kind.Number = true
 
 -- the order of the root's rows is fixed: each source keeps its order, until properties of kinds say more
 abbrev pub has_fixed_root : List Node → Bool

@@ -15,7 +15,6 @@ pub mod Flows
 pub mod United
 pub mod Makes
 pub mod Grouped
-pub mod Numbering
 pub mod Typed
 pub mod Linked
 pub mod Typing

@@ -14,12 +14,11 @@ use Rattle.flow_types.specs.Assigned.{IsAssigned}
 use Rattle.flow_types.specs.Joined.{ArePairs, join_columns, lookup_columns}
 use Rattle.flow_types.specs.United.{AllGoInto}
 use Rattle.flow_types.specs.Grouped.{IsGrouped}
-use Rattle.flow_types.specs.Numbering.{numbered_columns}
 use Rattle.flow_types.specs.declared.node.Source.{Source}
 use Rattle.flow_types.specs.declared.node.Kind.{Kind}
 use Rattle.flow_types.specs.declared.node.Kind.TheVariants as kind
 use Rattle.flow_types.specs.declared.node.Node.{Node}
-use Rattle.flow_types.specs.NodeTexts.{NodeText, source, select, project, mapped, joined, looked_up, aggregated, sorted, distinct, united, numbered}
+use Rattle.flow_types.specs.NodeTexts.{NodeText, source, select, project, mapped, joined, looked_up, aggregated, sorted, distinct, united}
 use Rattle.flow_types.specs.Flows.{TypedFlow, number_of, tree_of, columns_in, columns_of, ids_of}
 
 -- a source that is built at this stage: a CSV file, its rows in the truth's order
@@ -39,7 +38,6 @@ KeepsText (aggregated by makes order) = AllKeep 1 64 make_lack makes
 KeepsText (sorted names) = ⊤
 KeepsText distinct = ⊤
 KeepsText (united names) = 2 ≤ length names
-KeepsText (numbered name) = ⊤
 
 -- a kind over inputs with these columns gives these columns
 abbrev pub IsOver : Kind → List (List Column) → List Column → Type 0
@@ -59,8 +57,6 @@ IsOver (kind.Aggregate by makes order) inputs columns =
 IsOver (kind.Sort by) inputs columns = (inputs ≡ columns ∷ []) × All (λ place. place < length columns) by
 IsOver kind.Distinct inputs columns = inputs ≡ columns ∷ []
 IsOver (kind.Union any) inputs columns = (any ≡ false) × (1 ≤ length inputs) × AllGoInto inputs columns
-IsOver kind.Number inputs columns =
-    (length inputs ≡ 1) × ((name : List ℕ) × (columns ≡ numbered_columns (columns_in inputs 0) name))
 
 -- a node over these inputs, whose columns are a schema
 pub record IsLinked (n : Node) (below : List Node) : Type 0 where

@@ -11,8 +11,7 @@ use Rattle.flow_types.specs.declared.node_text.NodeText.TheVariants as lent
 
 -- a source, a selection by the text of its test, a projection by the texts of its columns, a map by its texts, a join
 -- or a lookup by the texts of its pairs, an aggregate by the names of its columns, the texts of what it makes and the
--- order of its groups, a sort by the names of its columns, a distinct, a union by the names of its inputs, or a
--- numbering by the name of its column
+-- order of its groups, a sort by the names of its columns, a distinct, or a union by the names of its inputs
 pub data NodeText : Type 0 where
   source : RawSource → NodeText
   select : List ℕ → NodeText
@@ -24,7 +23,6 @@ pub data NodeText : Type 0 where
   sorted : List (List ℕ) → NodeText
   distinct : NodeText
   united : List (List ℕ) → NodeText
-  numbered : List ℕ → NodeText
 
 -- the order of a union is `append`: one input comes after the other
 abbrev pub is_append : Option (List ℕ) → Bool
@@ -57,7 +55,6 @@ text_of n =
     else if bytes_eq n.kind (codes "sort") then option_map sorted n.by
     else if bytes_eq n.kind (codes "distinct") then Some distinct
     else if bytes_eq n.kind (codes "union") then union_text n
-    else if bytes_eq n.kind (codes "number") then option_map numbered n.column
     else None
 
 -- what the node at a place says, sources first
@@ -78,7 +75,6 @@ inputs_needed (aggregated by makes order) = 1
 inputs_needed (sorted names) = 1
 inputs_needed distinct = 1
 inputs_needed (united names) = length names
-inputs_needed (numbered name) = 1
 
 -- what is lent of a raw flow, as it is
 abbrev pub text_seen : LentText → NodeText
@@ -92,4 +88,3 @@ text_seen (lent.Aggregate by makes order) = aggregated by.now makes.now order
 text_seen (lent.Sort names) = sorted names.now
 text_seen lent.Distinct = distinct
 text_seen (lent.Union names) = united names.now
-text_seen (lent.Number name) = numbered name.now

@@ -23,9 +23,8 @@ use Rattle.flow_types.specs.Paired.{pairs_of, lefts, rights}
 use Rattle.flow_types.specs.Joined.{join_columns, lookup_columns}
 use Rattle.flow_types.specs.United.{only_alike, united_columns}
 use Rattle.flow_types.specs.Grouped.{grouped}
-use Rattle.flow_types.specs.Numbering.{numbered_columns}
 use Rattle.flow_types.specs.Mapped.{setting_of, columns_set, set_columns, assign_in, only_few, only_schema}
-use Rattle.flow_types.specs.NodeTexts.{NodeText, source, select, project, mapped, joined, looked_up, aggregated, sorted, distinct, united, numbered, text_at}
+use Rattle.flow_types.specs.NodeTexts.{NodeText, source, select, project, mapped, joined, looked_up, aggregated, sorted, distinct, united, text_at}
 use Rattle.flow_types.specs.Graph.{names_of, id_of, fault_at, graph_of}
 
 -- the column of a name
@@ -138,12 +137,6 @@ typed_aggregate by texts order columns = do
   found ← grouped by texts columns
   Ok (kind.Aggregate found.0.0 found.0.1 order, found.1)
 
--- those of a numbering of these columns: the number has a name of its own
-abbrev pub typed_number : List ℕ → List Column → Result (Kind × List Column) SchemaCause
-typed_number name columns = do
-  output ← only_schema (numbered_columns columns name)
-  Ok (kind.Number, output)
-
 -- the kind and the columns of a node that says this, over inputs with these columns
 abbrev pub typed_text : NodeText → List (List Column) → Result (Kind × List Column) SchemaCause
 typed_text (source s) inputs = typed_source s
@@ -156,7 +149,6 @@ typed_text (aggregated by makes order) inputs = typed_aggregate by makes order (
 typed_text (sorted names) inputs = typed_sort names (columns_in inputs 0)
 typed_text distinct inputs = typed_distinct (columns_in inputs 0)
 typed_text (united names) inputs = typed_union inputs
-typed_text (numbered name) inputs = typed_number name (columns_in inputs 0)
 
 -- the same of what stands at a place, if something does
 abbrev pub typed_at : Option NodeText → List (List Column) → Result (Kind × List Column) SchemaCause

@@ -26,10 +26,9 @@ pub use Rattle.flow_types.specs.Paired.{paired_again, pairs_of, rights}
 pub use Rattle.flow_types.specs.Mapped.{only_schema}
 pub use Rattle.flow_types.specs.Typed.{typed_join, typed_lookup}
 pub use Rattle.flow_types.specs.Joined.{ArePairs, IsPair, as_nullable, join_columns, lookup_columns, other_columns}
-pub use Rattle.flow_types.specs.Typed.{typed_aggregate, typed_distinct, typed_number, typed_sort, typed_union}
+pub use Rattle.flow_types.specs.Typed.{typed_aggregate, typed_distinct, typed_sort, typed_union}
 pub use Rattle.flow_types.specs.United.{AllGoInto, GoesInto, any_nullable, are_alike, may_be_null, only_alike}
 pub use Rattle.flow_types.specs.United.{united_column, united_columns, united_from}
 pub use Rattle.flow_types.specs.Makes.{agg_of, is_number, made_column, made_columns, made_from, made_kind, made_nullable}
 pub use Rattle.flow_types.specs.Makes.{make_in, makes_of, may_be_made, may_be_of, only_summable, place_if}
 pub use Rattle.flow_types.specs.Grouped.{IsGrouped, IsMadeOf, group_output, group_places, grouped}
-pub use Rattle.flow_types.specs.Numbering.{numbered_columns}

@@ -8,7 +8,7 @@ use tuple_schema::Text;
 use workflow_file::{RawFlow, RawNode, RawSource};
 
 /// Whether the flow is one that can be typed at this stage: a table without a key, sources of promise `seq` in CSV
-/// files, and nodes that declare nothing, of each kind but unions in any order.
+/// files, and nodes that declare nothing, of each kind but numberings and unions in any order.
 #[tactic(auto, unfolding(crate::specs::Built::is_built))]
 pub fn is_built(raw: &RawFlow) -> bool
     ensures { result ≡ is_built raw.now }
@@ -64,7 +64,6 @@ fn has_text(node: &RawNode) -> bool
         "sort" => node.by.is_some(),
         "distinct" => true,
         "union" => is_append(&node.order) && node.inputs.is_some(),
-        "number" => node.column.is_some(),
         _ => false,
     }
 }

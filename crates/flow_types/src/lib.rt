@@ -5,8 +5,8 @@
 //! gives the nodes their meaning. Read `specs/Graph.antt` first, how nodes are named and reached, then
 //! `specs/Typed.antt`, their columns and the order of faults, `specs/Flows.antt`, a flow and its tree, and
 //! `specs/Linked.antt`, what holds of each flow. Built at this stage are sequences in CSV files, selections,
-//! projections, maps, joins, lookups, aggregates, sorts, distincts, numberings and unions that put one input behind the
-//! other: `is_built`.
+//! projections, maps, joins, lookups, aggregates, sorts, distincts and unions that put one input behind the other:
+//! `is_built`.
 //!
 //! Promised: `type_flow` answers the typed flow or its first fault; every `Flow` is the nodes of one tree, inputs
 //! first, no two of one number or one name, each over the columns of its inputs, and ranks above them; `tree_laws`: the
@@ -28,7 +28,6 @@ mod named;
 mod names;
 mod node;
 mod node_text;
-mod numbering;
 mod ordered;
 mod paired;
 mod typed;

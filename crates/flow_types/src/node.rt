@@ -151,8 +151,6 @@ pub enum Kind {
     Distinct,
     /// Gives the rows of its inputs, one input after the other; with `any`, in some order that leaves each input's.
     Union { any: bool },
-    /// Gives each row with its number behind it, from 1.
-    Number,
 }
 
 /// A node of a flow, with the columns of what it gives.

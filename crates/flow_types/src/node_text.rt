@@ -8,8 +8,7 @@ use workflow_file::{RawFlow, RawNode, RawSource};
 
 /// A source, a selection by the text of its test, a projection by the texts of its columns, a map by its texts, a join
 /// or a lookup by the texts of its pairs, an aggregate by the names of its columns, the texts of what it makes and the
-/// order of its groups, a sort by the names of its columns, a distinct, a union by the names of its inputs, or a
-/// numbering by the name of its column.
+/// order of its groups, a sort by the names of its columns, a distinct, or a union by the names of its inputs.
 #[derive(Clone, Copy)]
 pub enum NodeText<'r> {
     Source(&'r RawSource),
@@ -22,7 +21,6 @@ pub enum NodeText<'r> {
     Sort(&'r [Text]),
     Distinct,
     Union(&'r [Text]),
-    Number(&'r Text),
 }
 
 /// What the node at a place says, sources first.
@@ -57,7 +55,6 @@ fn text_of(node: &RawNode) -> Option<NodeText<'_>>
         "sort" => Some(NodeText::Sort(node.by.as_ref()?.items())),
         "distinct" => Some(NodeText::Distinct),
         "union" => union_text(node),
-        "number" => Some(NodeText::Number(node.column.as_ref()?)),
         _ => None,
     }
 }

@@ -20,7 +20,6 @@ use crate::mapped::type_map;
 use crate::names::{cols_if, names_in, no_double, place_of};
 use crate::node::{Cols, Inputs, Kind, Node, Source};
 use crate::node_text::{NodeText, name_at, text_at};
-use crate::numbering::type_number;
 use crate::ordered::{type_distinct, type_sort};
 use crate::typed::Typed;
 use crate::united::type_union;
@@ -166,7 +165,6 @@ fn type_text(
         NodeText::Sort(names) => type_sort(alloc, names, &inputs[0].schema),
         NodeText::Distinct => type_distinct(&inputs[0].schema),
         NodeText::Union(_) => type_union(alloc, inputs),
-        NodeText::Number(name) => type_number(alloc, name, &inputs[0].schema),
     }
 }
 

@@ -22,4 +22,3 @@ source_or_over (kind.Aggregate by makes order) inputs columns over = let one = o
 source_or_over (kind.Sort by) inputs columns over = inr (some_of inputs columns over.0)
 source_or_over kind.Distinct inputs columns over = inr (some_of inputs columns over)
 source_or_over (kind.Union any) inputs columns over = inr over.1
-source_or_over kind.Number inputs columns over = let one = over.0 in inr (omega arith)

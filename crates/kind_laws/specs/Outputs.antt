@@ -7,7 +7,6 @@ use Rattle.list_algebra.specs.Joins.{others, join, lookup}
 use Rattle.list_algebra.specs.Sorting.{sort}
 use Rattle.list_algebra.specs.Groups.{distinct}
 use Rattle.list_algebra.specs.Unions.{appended}
-use Rattle.list_algebra.specs.Numbers.{numbered}
 use Rattle.kind_laws.specs.Expressions.{selected, mapped}
 use Rattle.kind_laws.specs.Makes.{aggregated}
 use Rattle.flow_types.specs.declared.node.Kind.{Kind}
@@ -36,4 +35,3 @@ output_of (kind.Aggregate by makes order) columns lists = aggregated by makes or
 output_of (kind.Sort by) columns lists = sort (length (columns_in columns 0)) by (list_in lists 0)
 output_of kind.Distinct columns lists = distinct (list_in lists 0)
 output_of (kind.Union any) columns lists = appended lists
-output_of kind.Number columns lists = numbered (list_in lists 0)

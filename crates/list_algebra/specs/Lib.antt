@@ -8,5 +8,4 @@ pub mod Comparing
 pub mod Sorting
 pub mod Groups
 pub mod Unions
-pub mod Numbers
 pub mod Words

@@ -10,4 +10,3 @@ pub use Rattle.list_algebra.specs.Joins.{or_nulls, others, together}
 pub use Rattle.list_algebra.specs.Sorting.{ascending, comes_before, sort}
 pub use Rattle.list_algebra.specs.Groups.{distinct, each_group, groups, members}
 pub use Rattle.list_algebra.specs.Unions.{appended}
-pub use Rattle.list_algebra.specs.Numbers.{numbered, numbered_from}

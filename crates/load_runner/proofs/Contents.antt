@@ -85,7 +85,6 @@ none_has_columns (kind.Aggregate by makes order) columns = tt
 none_has_columns (kind.Sort by) columns = tt
 none_has_columns kind.Distinct columns = tt
 none_has_columns (kind.Union any) columns = tt
-none_has_columns kind.Number columns = tt
 
 -- batches that have the columns of the nodes of their numbers have those of the sources
 pub sources_have_columns : (flow : TypedFlow) (lists : List BatchOf) → ((place : ℕ) (n : Node) → slice_get flow.nodes place ≡ Some n → node_of flow n.id ≡ Some n)
