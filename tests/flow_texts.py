@@ -219,8 +219,8 @@ NODES = [
     ("name='g',kind='aggregate',input='a',by=['n'],make=['c = count']", "node 1 order 0: absent"),
     ("name='g',kind='aggregate',input='a',by=['n'],"
      "make=['c = count','d = count n','s = sum n','t = min n','u = max n'],order='first'",
-     NOT_BUILT),
-    ("name='g',kind='aggregate',input='a',by=['n'],make=['c = count'],order='key'", NOT_BUILT),
+     BUILT),
+    ("name='g',kind='aggregate',input='a',by=['n'],make=['c = count'],order='key'", BUILT),
     ("name='g',kind='aggregate',input='a',by=['n'],make=['c = count'],order='append'",
      "node 1 order 0: bad word"),
     ("name='g',kind='aggregate',input='a',by=['n'],make=['c']", "node 1 make 1: bad word"),

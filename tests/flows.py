@@ -39,6 +39,10 @@ def lookup(*on, left="a", right="b", name="x"):
     return join(*on, left=left, right=right, name=name, kind="lookup")
 
 
+def aggregate(by, *makes, taken="a", name="x", order="first"):
+    return {"name": name, "kind": "aggregate", "input": taken, "by": by, "make": list(makes), "order": order}
+
+
 def sort(*by, taken="a", name="x"):
     return {"name": name, "kind": "sort", "input": taken, "by": list(by)}
 

@@ -1,5 +1,7 @@
 // A typed flow: its nodes from the source on, their numbers and all that they hold.
-use flow_types::{Assigns, Cols, Flow, Kind, Node, Source, is_built, type_flow};
+use flow_types::{
+    Agg, Assigns, Cols, Flow, GroupOrder, Kind, Makes, Node, Source, is_built, type_flow,
+};
 use std::alloc::Global;
 use std::test::Fail;
 use tuple_schema::{Column, ColumnKind, Stop};
@@ -52,6 +54,21 @@ const JOINED_NODES: [&str; 5] = [
     "4 j join 1 0 with 0 1 over 0 over 1: n t' m.1",
     "2 c c.csv csv seq key none grouped none: y.1 z",
     "3 l lookup 2 with 0 over 4 over 2: n t' m.1 z?",
+];
+
+// The same of an aggregate.
+const GROUPED: &[u8] = b"\
+table={input='g'}
+source=[{name='a',file='a.csv',promise='seq',columns=['n int?','d dec1','t text?']}]
+node=[{name='g',kind='aggregate',input='h',by=['u','t'],make=['k = count'],order='key'},
+{name='h',kind='aggregate',input='a',by=['t'],order='first',
+make=['c = count','e = count n','s = sum d','u = min n','v = max d']}]
+";
+
+const GROUPED_NODES: [&str; 3] = [
+    "0 a a.csv csv seq key none grouped none: n? d.1 t'?",
+    "2 h groups 2 make count 0, count of 0, sum 1, min 0, max 1 over 0: t'? c e s.1? u? v.1",
+    "1 g groups 4 0 by key make count 0 over 2: u? t'? k",
 ];
 
 fn typed(alloc: Global, text: &[u8]) -> Result<Flow, Fail> {
@@ -111,6 +128,33 @@ fn pairs_line(alloc: Global, kind: &str, left: &Cols, right: &Cols) -> Result<St
     Ok(format!(in alloc; "{kind}{left} with{right}")?)
 }
 
+fn makes_line(alloc: Global, makes: &Makes) -> Result<String, Fail> {
+    let mut line = String::from_str(alloc, " make")?;
+    for make in makes.items() {
+        if line.len() > 5 {
+            line.push_str(",")?;
+        }
+        let what = match make.what {
+            Agg::Count => "count",
+            Agg::CountOf => "count of",
+            Agg::Sum => "sum",
+            Agg::Min => "min",
+            Agg::Max => "max",
+        };
+        line.push_str(format!(in alloc; " {what} {}", make.column)?.as_str())?;
+    }
+    Ok(line)
+}
+
+fn groups_line(alloc: Global, by: &Cols, makes: &Makes, order: GroupOrder) -> Result<String, Fail> {
+    let word = match order {
+        GroupOrder::First => "",
+        GroupOrder::Key => " by key",
+    };
+    let (by, makes) = (places(alloc, by)?, makes_line(alloc, makes)?);
+    Ok(format!(in alloc; "groups{by}{word}{makes}")?)
+}
+
 fn kind_line(alloc: Global, kind: &Kind) -> Result<String, Fail> {
     match kind {
         Kind::Source(source) => source_line(alloc, source),
@@ -119,6 +163,7 @@ fn kind_line(alloc: Global, kind: &Kind) -> Result<String, Fail> {
         Kind::Join { left, right } => pairs_line(alloc, "join", left, right),
         Kind::Lookup { left, right } => pairs_line(alloc, "lookup", left, right),
         Kind::Project { from } => Ok(format!(in alloc; "project{}", places(alloc, from)?)?),
+        Kind::Aggregate { by, makes, order } => groups_line(alloc, by, makes, *order),
         Kind::Sort { by } => Ok(format!(in alloc; "sort{}", places(alloc, by)?)?),
         Kind::Distinct => Ok(String::from_str(alloc, "distinct")?),
         Kind::Union { any } => Ok(format!(in alloc;
@@ -158,6 +203,7 @@ fn the_nodes_come_from_the_source_on(rt: HostRuntime) -> Result<(), Fail> {
         (FLOW, NODES.as_slice()),
         (KINDS, KINDS_NODES.as_slice()),
         (JOINED, JOINED_NODES.as_slice()),
+        (GROUPED, GROUPED_NODES.as_slice()),
     ] {
         let flow = typed(rt.alloc(), text)?;
         assert_eq!(rt; flow.count(), wanted.len());

@@ -120,11 +120,7 @@ fn make_in(alloc: Global, names: &[&Text], value: &str) -> Result<Make, Stop<Sch
 }
 
 // The place of the column that is named, which has to be there, or 0.
-fn place_if(
-    alloc: Global,
-    names: &[&Text],
-    name: Option<&str>,
-) -> Result<usize, Stop<SchemaCause>>
+fn place_if(alloc: Global, names: &[&Text], name: Option<&str>) -> Result<usize, Stop<SchemaCause>>
     requires { IfSome name (λ n. length n.now ≤ 4096) }
     ensures { Gives result (place_if (map (λ n. n.now) names.now) (option_copied name.entry)) }
 {
@@ -238,11 +234,7 @@ fn group_output(
 }
 
 // Adds the columns at these places.
-fn push_taken(
-    input: &[Column],
-    places: &[usize],
-    columns: &mut Vec<Column>,
-) -> Result<(), Memory>
+fn push_taken(input: &[Column], places: &[usize], columns: &mut Vec<Column>) -> Result<(), Memory>
     ensures { OnOk result (columns.new.items ≡ columns.old.items ++ filter_map (slice_get input.now) places.now) }
 {
     for place in places {

@@ -129,15 +129,27 @@ pub enum Kind {
     /// Reads a file.
     Source(Source),
     /// Keeps the rows of which the test is true.
-    Select { test: Expr },
+    Select {
+        test: Expr,
+    },
     /// Takes these columns of its input, in this order.
-    Project { from: Cols },
+    Project {
+        from: Cols,
+    },
     /// Gives each row with values set, in columns of its own or new ones behind them.
-    Map { sets: Assigns },
+    Map {
+        sets: Assigns,
+    },
     /// Gives each left row with each right one that has equal values in these columns, none of them Null.
-    Join { left: Cols, right: Cols },
+    Join {
+        left: Cols,
+        right: Cols,
+    },
     /// The same, and a left row with which none agrees comes once, with Null behind it.
-    Lookup { left: Cols, right: Cols },
+    Lookup {
+        left: Cols,
+        right: Cols,
+    },
     /// Gives of each group of rows that are equal in these columns the values there, and behind them what it makes of the
     /// group's rows. Nulls are equal.
     Aggregate {
@@ -146,11 +158,15 @@ pub enum Kind {
         order: GroupOrder,
     },
     /// Gives the rows ascending by these columns, then by the others.
-    Sort { by: Cols },
+    Sort {
+        by: Cols,
+    },
     /// Gives the first of each equal row.
     Distinct,
     /// Gives the rows of its inputs, one input after the other; with `any`, in some order that leaves each input's.
-    Union { any: bool },
+    Union {
+        any: bool,
+    },
 }
 
 /// A node of a flow, with the columns of what it gives.
