@@ -14,7 +14,7 @@ use Rattle.flow_types.specs.Trees.{inputs_below, IsWhole}
 use Rattle.flow_types.proofs.Whole.{whole_inputs}
 use Rattle.flow_types.proofs.Links.{inputs_counted}
 use Rattle.flow_types.specs.NodeTexts.{NodeText, source, text_of, text_at, inputs_needed}
-use Rattle.flow_types.proofs.Said.{Said, by_test, by_columns, by_set, by_join, by_lookup, by_sort, by_distinct, by_union, said}
+use Rattle.flow_types.proofs.Said.{Said, by_test, by_columns, by_set, by_join, by_lookup, by_aggregate, by_sort, by_distinct, by_union, said}
 
 is_absent : {X : Type 0} (o : Option X) → is_some o ≡ false → o ≡ None
 is_absent None absent = refl
@@ -54,6 +54,10 @@ projects_one = (refl, refl, refl, refl)
 maps_one : HasOne (codes "map")
 unfolding keys_of
 maps_one = (refl, refl, refl, refl)
+
+groups_one : HasOne (codes "aggregate")
+unfolding keys_of
+groups_one = (refl, refl, refl, refl)
 
 sorts_one : HasOne (codes "sort")
 unfolding keys_of
@@ -120,6 +124,7 @@ module _ (n : RawNode) (keeps : KeepsNode n) where
   names_needed text (by_set texts kind at is) = rw (← is) (names_one (has_one n.kind (codes "map") kind maps_one))
   names_needed text (by_join texts kind at is) = rw (← is) (names_two (has_two n.kind (codes "join") kind joins_two))
   names_needed text (by_lookup texts kind at is) = rw (← is) (names_two (has_two n.kind (codes "lookup") kind looks_up_two))
+  names_needed text (by_aggregate by makes word kind at is) = rw (← is) (names_one (has_one n.kind (codes "aggregate") kind groups_one))
   names_needed text (by_sort names kind at is) = rw (← is) (names_one (has_one n.kind (codes "sort") kind sorts_one))
   names_needed text (by_distinct kind is) = rw (← is) (names_one (has_one n.kind (codes "distinct") kind distincts_one))
   names_needed text (by_union names kind at is) = rw (← is) (names_many (has_many n.kind (codes "union") kind unites_many) names at)

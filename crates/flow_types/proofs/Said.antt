@@ -32,7 +32,7 @@ aggregate_of n text is = by n.by n.make n.order refl is
     by None makes word at says = absurd (cc)
     by (Some b) None word at says = absurd (cc)
     by (Some b) (Some m) None at says = absurd (cc)
-    by (Some b) (Some m) (Some w) at says = (b, m, w, at, same_Some _ _ says)
+    by (Some b) (Some m) (Some w) at says = (b, (m, (w, (at, same_Some _ _ says))))
 
 united_of : (n : RawNode) (text : NodeText) → union_text n ≡ Some text → (names : List (List ℕ)) × (n.inputs ≡ Some names) × (united names ≡ text)
 united_of n text is =
@@ -61,7 +61,7 @@ module _ (n : RawNode) (text : NodeText) where
       elim (cases_Bool (bytes_eq n.kind (codes "aggregate"))) [
         | inl same ↦
             let made = aggregate_of n text (rw same at is) in
-            by_aggregate made.0 made.1 made.2 (is_kind (codes "aggregate") same) made.3 made.4
+            by_aggregate made.0 made.1.0 made.1.1.0 (is_kind (codes "aggregate") same) made.1.1.1.0 made.1.1.1.1
         | inr no_aggregate ↦ elim (cases_Bool (bytes_eq n.kind (codes "sort"))) [
           | inl same ↦
               let made = made_of sorted n.by text (rw (no_aggregate, same) at is) in
