@@ -1,9 +1,11 @@
 //! What whload does at this stage, in plain Rust with the real `csv` crate and no proofs: `twin load DIR FILE COLUMNS`
 //! reads a CSV file once, checks and packs its rows, and writes one table file with the same writes and syncs; `twin dump
 //! DIR NAMES COLUMNS` checks that table and writes its rows as CSV; `twin join DIR LEFT COLUMNS RIGHT COLUMNS` joins two
-//! files by the second column of the left one and the first of the right one. COLUMNS are kinds with commas between: `int`, `dec2`,
-//! `text`, and `?` behind one that may be empty.
-use std::collections::HashMap;
+//! files by the second column of the left one and the first of the right one; `twin group DIR FILE COLUMNS` counts and sums
+//! the second column by the first, `twin distinct` keeps the first of each equal row, and `twin sort` sorts by all columns,
+//! all of them ints that aren't negative. COLUMNS are kinds with commas between: `int`, `dec2`, `text`, and `?` behind one
+//! that may be empty.
+use std::collections::{HashMap, HashSet};
 use std::error::Error;
 use std::fs::{self, OpenOptions};
 use std::io::{Read, Seek, SeekFrom, Write};
@@ -203,6 +205,66 @@ fn join(dir: &Path, left: (&str, &[Column]), right: (&str, &[Column])) -> Outcom
     write_table(dir, &rows)
 }
 
+/// Counts and sums the second column by the first, both ints, with a table of hashes; groups come as they appear.
+fn group(dir: &Path, name: &str, columns: &[Column]) -> Outcome<()> {
+    let bytes = fs::read(dir.join(name))?;
+    let mut places: HashMap<i64, usize> = HashMap::new();
+    let mut groups: Vec<(i64, i64, i128)> = Vec::new();
+    each_record(&bytes, columns, |record| {
+        let Lent::Int(key) = read_field(&record[0], columns[0])? else { return Ok(()) };
+        let Lent::Int(number) = read_field(&record[1], columns[1])? else { return Ok(()) };
+        let place = *places.entry(key).or_insert(groups.len());
+        if place == groups.len() {
+            groups.push((key, 0, 0));
+        }
+        groups[place].1 += 1;
+        groups[place].2 += i128::from(number);
+        Ok(())
+    })?;
+    drop(bytes);
+    let mut rows = Packed { bytes: Vec::new(), ends: Vec::new() };
+    for (key, count, sum) in groups {
+        for number in [key, count, i64::try_from(sum)?] {
+            pack(Lent::Int(number), &mut rows.bytes);
+        }
+        rows.ends.push(rows.bytes.len());
+    }
+    write_table(dir, &rows)
+}
+
+/// The bytes of each row.
+fn each_row(rows: &Packed) -> impl Iterator<Item = &[u8]> {
+    let starts = std::iter::once(0).chain(rows.ends.iter().copied());
+    starts.zip(&rows.ends).map(|(start, end)| &rows.bytes[start..*end])
+}
+
+fn write_rows<'a>(dir: &Path, those: impl Iterator<Item = &'a [u8]>) -> Outcome<()> {
+    let mut made = Packed { bytes: Vec::new(), ends: Vec::new() };
+    for row in those {
+        made.bytes.extend_from_slice(row);
+        made.ends.push(made.bytes.len());
+    }
+    write_table(dir, &made)
+}
+
+fn distinct(dir: &Path, name: &str, columns: &[Column]) -> Outcome<()> {
+    let bytes = fs::read(dir.join(name))?;
+    let rows = read_rows(&bytes, columns)?;
+    drop(bytes);
+    let mut seen = HashSet::new();
+    write_rows(dir, each_row(&rows).filter(|row| seen.insert(*row)))
+}
+
+/// Sorts rows of ints that aren't negative, of which the bytes ascend as the values do.
+fn sort(dir: &Path, name: &str, columns: &[Column]) -> Outcome<()> {
+    let bytes = fs::read(dir.join(name))?;
+    let rows = read_rows(&bytes, columns)?;
+    drop(bytes);
+    let mut sorted: Vec<&[u8]> = each_row(&rows).collect();
+    sorted.sort();
+    write_rows(dir, sorted.into_iter())
+}
+
 fn write_table(dir: &Path, rows: &Packed) -> Outcome<()> {
     let text = fs::read(dir.join("flow.toml"))?;
     let mut head = b"WHTABLE".to_vec();
@@ -334,7 +396,11 @@ fn main() -> Outcome<()> {
         ["join", dir, left, lefts, right, rights] => {
             join(Path::new(dir), (left, &columns_of(lefts)?), (right, &columns_of(rights)?))
         }
-        _ => Err("usage: twin load DIR FILE COLUMNS, twin dump DIR NAMES COLUMNS, twin join DIR FILE COLUMNS FILE COLUMNS"
+        ["group", dir, file, columns] => group(Path::new(dir), file, &columns_of(columns)?),
+        ["distinct", dir, file, columns] => distinct(Path::new(dir), file, &columns_of(columns)?),
+        ["sort", dir, file, columns] => sort(Path::new(dir), file, &columns_of(columns)?),
+        _ => Err("usage: twin load|group|distinct|sort DIR FILE COLUMNS, twin dump DIR NAMES COLUMNS, \
+            twin join DIR FILE COLUMNS FILE COLUMNS"
             .into()),
     }
 }
