@@ -25,10 +25,10 @@ kept_new keeps true ys x inside = refl
 kept_new keeps false ys x inside =
     filter-append keeps ys (x ∷ []) ∙ ap (λ b. filter keeps ys ++ cond b (x ∷ []) []) inside
 
-same_back : (x y : Tuple) → same x y ≡ true → same y x ≡ true
+pub same_back : (x y : Tuple) → same x y ≡ true → same y x ≡ true
 same_back x y h = let e = same-equal x y h in rw e (same-itself y)
 
-differ_back : (x y : Tuple) → same x y ≡ false → same y x ≡ false
+pub differ_back : (x y : Tuple) → same x y ≡ false → same y x ≡ false
 differ_back x y h =
     elim (cases_Bool (same y x)) [
       | inl equal ↦ absurd (false≢true (sym h ∙ same_back y x equal))
@@ -37,7 +37,7 @@ differ_back x y h =
 
 -- a tuple is among others as it is among those of them that differ from a first one, where it differs from that
 module _ (first x : Tuple) (differ : same first x ≡ false) where
-  among_others : (ys : List Tuple) → list_any (same x) (filter (λ t. not (same first t)) ys) ≡ list_any (same x) ys
+  pub among_others : (ys : List Tuple) → list_any (same x) (filter (λ t. not (same first t)) ys) ≡ list_any (same x) ys
   among_others [] = refl
   among_others (y ∷ ys) =
       let others : List Tuple → List Tuple = filter (λ t. not (same first t)) in

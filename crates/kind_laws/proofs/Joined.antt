@@ -58,7 +58,7 @@ holds_right : (a b : Bool) → (a && b) ≡ true → b ≡ true
 holds_right true b h = h
 holds_right false b h = cc
 
-fits-append : (columns behind : List Column) (row rest : List Value) → fits columns row ≡ true → fits behind rest ≡ true
+pub fits-append : (columns behind : List Column) (row rest : List Value) → fits columns row ≡ true → fits behind rest ≡ true
     → fits (columns ++ behind) (row ++ rest) ≡ true
 fits-append [] behind [] rest fit also = also
 fits-append [] behind (v ∷ row) rest fit also = absurd cc

@@ -103,7 +103,7 @@ module _ {K : Type 0} (same : K → K → Bool) (ks : List K) (key : K) where
         | inr none ↦ absurd (among (place_behind (same key) ks none))
       ]
 
-at_end : {K : Type 0} (ks : List K) (key : K) → slice_get (ks ++ key ∷ []) (length ks) ≡ Some key
+pub at_end : {K : Type 0} (ks : List K) (key : K) → slice_get (ks ++ key ∷ []) (length ks) ≡ Some key
 at_end [] key = refl
 at_end (k ∷ ks) key = at_end ks key
 

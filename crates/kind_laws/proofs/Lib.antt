@@ -14,6 +14,11 @@ pub mod Fitting
 mod KeysNumbered
 mod KeysParts
 mod DistinctMore
+mod GroupsNumbered
+mod GroupsMore
+mod GroupsMade
+mod GroupsSorted
+mod GroupsHeld
 mod MakingLists
 mod MakingRows
 mod MakingTotals

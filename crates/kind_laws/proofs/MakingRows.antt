@@ -17,13 +17,13 @@ no_rows_of group_of rows group = ap (map (row_at rows)) (no_numbers (λ n. get_o
 
 module _ (group_of : List ℕ) (rows : List Tuple) (n group : ℕ) where
   -- the rows of a group with its next row
-  row_added : get_or group_of n 0 ≡ group → first_rows_of group_of rows (n + 1) group ≡ first_rows_of group_of rows n group ++ row_at rows n ∷ []
+  pub row_added : get_or group_of n 0 ≡ group → first_rows_of group_of rows (n + 1) group ≡ first_rows_of group_of rows n group ++ row_at rows n ∷ []
   row_added is =
       ap (map (row_at rows)) (number_kept (λ m. get_or group_of m 0 == group) n (eq-eqb (get_or group_of n 0) group is))
       ∙ map-append (row_at rows) (filter (λ m. get_or group_of m 0 == group) (below n)) (n ∷ [])
 
   -- a row of another group changes nothing
-  row_passed : (get_or group_of n 0 ≡ group → ⊥) → first_rows_of group_of rows (n + 1) group ≡ first_rows_of group_of rows n group
+  pub row_passed : (get_or group_of n 0 ≡ group → ⊥) → first_rows_of group_of rows (n + 1) group ≡ first_rows_of group_of rows n group
   row_passed other =
       ap (map (row_at rows)) (number_left (λ m. get_or group_of m 0 == group) n (ne_eqb (get_or group_of n 0) group other))
 

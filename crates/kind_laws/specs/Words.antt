@@ -11,4 +11,4 @@ pub use Rattle.kind_laws.specs.Fitting.{AllFitInto, FitInto}
 pub use Rattle.kind_laws.specs.Keys.{key_number, with_key}
 pub use Rattle.kind_laws.specs.Makes.{aggregated, counted, difference, fall, given_in, made, made_of, ordered, rise}
 pub use Rattle.kind_laws.specs.Accumulators.{GiveEach, HoldsWithin, IsBest, IsTotal, IsWithin, ReadsWithin, StandEach, Stands, first_or, pick, rows_of, total_value, value_at, value_held, value_of_best, what_of}
-pub use Rattle.kind_laws.specs.Grouping.{IsGrouping}
+pub use Rattle.kind_laws.specs.Grouping.{AreHeld, IsGrouping, group_at, group_row}

@@ -64,8 +64,12 @@ fn add_row(row: &RowView<'_>, made: &mut BatchBuilder) -> Result<(), Memory>
     Ok(())
 }
 
-// Adds the row's values at these places to the row that is begun.
-fn add_places(row: &RowView<'_>, places: &[usize], made: &mut BatchBuilder) -> Result<(), Memory>
+/// Adds the row's values at these places to the row that is begun.
+pub(crate) fn add_places(
+    row: &RowView<'_>,
+    places: &[usize],
+    made: &mut BatchBuilder,
+) -> Result<(), Memory>
     requires within { All (λ place. place < length row.now) places.now }
     requires fits { FitBehind made.old.columns made.old.begun (part row.now places.now) }
     ensures begun { OnOk result (made.new.begun ≡ made.old.begun ++ part row.now places.now) }

@@ -12,6 +12,7 @@
 #![tactic(auto)]
 
 mod adding;
+mod aggregating;
 mod distinct;
 mod evaluation;
 mod grouping;

@@ -34,8 +34,8 @@ pub(crate) fn in_order(alloc: Global, rows: &Batch, cols: &[usize]) -> Result<Ve
     Ok(numbers)
 }
 
-// The numbers below this one, ascending.
-fn all_numbers(alloc: Global, count: usize) -> Result<Vec<usize>, Memory>
+/// The numbers below this one, ascending.
+pub(crate) fn all_numbers(alloc: Global, count: usize) -> Result<Vec<usize>, Memory>
     ensures { IfOk result (λ numbers. numbers.items ≡ below count) }
 {
     let mut numbers = Vec::new(alloc);

@@ -30,8 +30,8 @@ fn sort_columns(alloc: Global, count: usize, by: &[usize]) -> Result<Vec<usize>,
     Ok(cols)
 }
 
-// The batch of the rows of these numbers, in the numbers' order. The bytes of each are copied as they are.
-fn rows_at(alloc: Global, rows: &Batch, numbers: &[usize]) -> Result<Batch, Memory>
+/// The batch of the rows of these numbers, in the numbers' order. The bytes of each are copied as they are.
+pub(crate) fn rows_at(alloc: Global, rows: &Batch, numbers: &[usize]) -> Result<Batch, Memory>
     requires within { All (λ n. n < length rows.now.rows) numbers.now }
     ensures columns { IfOk result (λ b. b.columns ≡ rows.now.columns) }
     ensures rows { IfOk result (λ b. b.rows ≡ map (row_at rows.now.rows) numbers.now) }

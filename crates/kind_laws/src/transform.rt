@@ -1,4 +1,5 @@
 // The nodes of a flow as transforms of whole lists.
+use crate::aggregating::aggregate;
 use crate::distinct::distinct;
 use crate::joining::{join, lookup};
 use crate::mapping::map;
@@ -67,6 +68,10 @@ impl Transform for Law<'_> {
             Kind::Lookup { left, right } => {
                 let (left, right) = (left.places(), right.places());
                 lookup(alloc, left, right, columns, &lists[0], &lists[1])
+            }
+            Kind::Aggregate { by, makes, order } => {
+                let (by, makes) = (by.places(), makes.items());
+                aggregate(alloc, by, makes, *order, columns, &lists[0])
             }
             Kind::Sort { by } => sort(alloc, by.places(), &lists[0]),
             Kind::Distinct => distinct(alloc, &lists[0]),
