@@ -23,7 +23,7 @@ MAKES = [
     (["n"], ["c = count", "c = sum n"], "column c comes twice"),
     (["n", "t"], ["c = count", "t = count", "c = count", "n = count"], "column t comes twice"),
     (["n"], [f"c{i} = count" for i in range(63)], None),
-    (["n"], [f"c{i} = count" for i in range(64)], "too many columns"),
+    (["n"], [f"c{i} = count" for i in range(64)], "more than 64 columns"),
     (["n"], [f"c{i} = count" for i in range(63)] + ["c0 = count"], "column c0 comes twice"),
 ]
 
